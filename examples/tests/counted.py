@@ -70,7 +70,7 @@ def answers_to(seat, account):
     before = [(call(seat, cmd="list", probe=""), f'{{"ok":true,"probes":[{listed}]}}'), (call(seat, cmd="enable", text="*{}"), enabled(len(probes))),
               (call(seat, cmd="enable", text="dtrace:::END{stack(1)}"), stack), (call(seat, cmd="go"), OK)]
     data = "".join(f"{epids[place]:08x}" for place in (1, *shown))
-    reply = f'{{"aggdrops":[0],"cause":null,"errors":[0],"exit":null,"ok":true,"phase":"active","seen":{len(shown)}}}'
+    reply = f'{{"aggdrops":[0],"cause":null,"dyndrops":[0],"errors":[0],"exit":null,"ok":true,"phase":"active","seen":{len(shown)},"specdrops":[0],"specfails":0}}'
     return before, [(call(seat, cmd="snap", cpu=0), snap(data)[1]), (call(seat, cmd="status"), reply)]
 
 
@@ -232,17 +232,21 @@ def options(folder):
     path = folder / "machine.json"
     path.write_text(machine([[fired(place % 2) for place in range(8)]]))
     strange = ["-1", str(-1 << 63), "1.0", "1e3", str(1 << 64), "null", "true", '"1"', "[1]", '{"a":1}']
-    for name, least, most, last, told in (
-            ("bufsize", 1, 1 << 20, 12, [snap(f"{1:08x}" + number(0), 2)]), ("aggsize", 8, 1 << 20, 24, [status(3, aggdrops=1)]),
-            ("histsize", 1, HISTORY_MAX, 2, [status(2, '"history"', "stopped")])):
+    both = "read:entry{trace(arg0);@[arg0] = count()}"
+    for name, least, most, last, text, told in (
+            ("bufsize", 1, 1 << 20, 12, both, snap(f"{1:08x}" + number(0), 2)), ("aggsize", 8, 1 << 20, 24, both, status(3, aggdrops=1)),
+            ("histsize", 1, HISTORY_MAX, 2, both, status(2, '"history"', "stopped")),
+            ("dynvarsize", 32, 1 << 20, 32, "read:entry{self->a = 1; self->b = 2}", status(3, dyndrops=3)),
+            ("nspec", 1, 64, 2, "read:entry{self->a = speculation()}", status(3, specfails=1)),
+            ("specsize", 4, 1 << 16, 16, "read:entry{self->a = speculation(); speculate(1); trace(arg0)}", status(3, specdrops=2, specfails=2))):
         taken = [*near(most, least), last]
         others = [*strange, *map(str, [*range(least), *near((1 << 64) - 1, most + 1)])]
-        used = [(enable("read:entry{trace(arg0);@[arg0] = count()}"), enabled(1)), go(), *fires(3), *told]
+        used = [(enable(text), enabled(1)), go(), *fires(3), told]
         late = [(step, '{"error":10,"name":"Busy"}') for step in (option(name, last)[0], refused(name, "0")[0])]
         yield from sessions(path, f"values of {name}", [[*(option(name, value) for value in taken), *(refused(name, value) for value in others), *used, *late]])
     taken = [option("bufpolicy", policy) for policy in ("switch", "fill", "ring")]
     others = [refused("bufpolicy", value) for value in ('"Switch"', '"switch "', '""', '"rings"', "0", "null", "false", '["fill"]')]
-    others += [refused(name, "8") for name in ("", "buf", "bufsize ", "Bufsize", "size", "histsiz", "switch", "aggsizes")]
+    others += [refused(name, "8") for name in ("", "buf", "bufsize ", "Bufsize", "size", "histsiz", "switch", "aggsizes", "dynvars", "nspecs", "specsiz")]
     yield from sessions(path, "policies and names of options", [taken + others])
 
 

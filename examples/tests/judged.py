@@ -80,7 +80,14 @@ ASKED = [
     {"cmd": "enable", "text": "read:entry/arg0 % 2/{@a[execname] = sum(arg0)} END{trace(1)}"},
     {"cmd": "enable", "text": "syscall:::entry{@q = quantize(arg0); exit(3)} profile:::{}"},
     {"cmd": "enable", "text": "BEGIN{trace(7)} read:entry{@l = lquantize(arg0, 0, 20, 5)}"},
+    {"cmd": "enable", "text": "read:entry{self->n = self->n + arg0; trace(self->n)} END{trace(self->n)}"},
+    {"cmd": "enable", "text": "BEGIN{self->s = speculation()} read:entry{speculate(1); trace(arg0)} read:entry/arg0 % 3 == 0/{commit(1); self->s = speculation()}"},
+    {"cmd": "enable", "text": "read:entry/arg0 % 2/{self->s = speculation()} read:entry{speculate(self->s)} read:entry/arg0 % 5 == 0/{discard(self->s); self->s = 0}"},
+    {"cmd": "enable", "text": "read:entry{self->s = 1; self->q = 8 / arg0; commit(self->s)} END{commit(1); commit(2)}"},
     {"cmd": "enable", "text": "read:entry{"},
+    {"cmd": "option", "name": "dynvarsize", "value": 32},
+    {"cmd": "option", "name": "nspec", "value": 2},
+    {"cmd": "option", "name": "specsize", "value": 16},
     {"cmd": "option", "name": "bufsize", "value": 24},
     {"cmd": "option", "name": "bufpolicy", "value": "ring"},
     {"cmd": "option", "name": "bufpolicy", "value": "fill"},
@@ -110,7 +117,7 @@ def random_trails(folder):
     changed = 0
     for seed in range(SESSIONS):
         dice = random.Random(seed)
-        scripts = [[fired(dice.randrange(20), pid=dice.choice([100, 200])) for _place in range(dice.randrange(30))] for _cpu in range(2)]
+        scripts = [[fired(dice.randrange(20), pid=dice.choice([100, 200]), tid=dice.randrange(3)) for _place in range(dice.randrange(30))] for _cpu in range(2)]
         path.write_text(machine(scripts, ["root", "ann", "bob", "joe"]))
         seat = dice.randrange(3)
         told, status = run("replay", path, "--trail", seat, text=random_steps(dice))

@@ -8,7 +8,7 @@ from running import (FIRINGS_MAX, HISTORY_MAX, OK, call, enable, enabled, fired,
                      text_of)
 
 EDGES = sorted({sign * power + by for power in (1 << n for n in range(63)) for sign in (-1, 1) for by in (-1, 0, 1)} | {-1 << 63, (1 << 63) - 1})
-STATUS = '{"aggdrops":[0],"cause":null,"errors":[0],"exit":null,"ok":true,"phase":"inactive","seen":0}'
+STATUS = '{"aggdrops":[0],"cause":null,"dyndrops":[0],"errors":[0],"exit":null,"ok":true,"phase":"inactive","seen":0,"specdrops":[0],"specfails":0}'
 
 
 def signed(value):
@@ -82,7 +82,8 @@ def buffers():
 def every_option():
     """A session for each number of 16 bits, of which each option that takes numbers takes it."""
     for size in range(1, 1 << 16):
-        yield [option("bufsize", size), option("histsize", size), option("aggsize", size + 7), (enable("read:entry{}"), enabled(1)), go()]
+        yield [option("bufsize", size), option("histsize", size), option("aggsize", size + 7), option("dynvarsize", size + 31),
+               option("specsize", max(size, 4)), (enable("read:entry{}"), enabled(1)), go()]
 
 
 def stores():
@@ -93,6 +94,43 @@ def stores():
         size = 24 * count + 23
         yield [option("aggsize", size), option("histsize", FIRINGS_MAX), (enable("read:entry{@[arg0] = count()}"), enabled(1)), go(), *fires(count + 1),
                table("count", [{"key": [it], "value": 1} for it in range(first, first + count)]), status(count + 1, aggdrops=1)]
+
+
+def variables():
+    """Rooms for each number of variables, and as many assignments to new ones as they take and one more at least; each kept one is read back."""
+    names = [[f"self->v{clause}_{place}" for place in range(4)] for clause in range(64)]
+    text = "".join("read:entry{" + "".join(f"{it} = 1; " for it in four) + f"@ = sum({' + '.join(four)})}}" for four in names)
+    for count in near(1 << 15):
+        firings = count // 256 + 1
+        yield [option("dynvarsize", min(32 * count + 31, 1 << 20)), (enable(text), enabled(64)), go(), *fires(firings),
+               table("sum", [{"key": [], "value": count}]), status(firings, dyndrops=256 * firings - count)]
+
+
+def speculations():
+    """Each number of speculations, and a draw more at least, which fails; a record in each, committed by END."""
+    for count in near(64):
+        draws = count // 8 + 1
+        drawn = "".join("BEGIN{" + "; ".join(f"self->s{place} = speculation()" for place in range(8)) + "}" for _clause in range(draws))
+        written = "".join(f"read:entry{{speculate({it}); trace({it})}}" for it in range(1, count + 1))
+        ended = "".join("END{" + "; ".join(f"commit({8 * clause + place})" for place in range(1, 9)) + "}" for clause in range(draws))
+        data = "".join(f"{draws + it:08x}" + number(it) for it in range(1, count + 1))
+        yield [option("nspec", count), (enable(drawn), enabled(draws)), (enable(written), enabled(count, draws + 1)),
+               (enable(ended), enabled(draws, draws + count + 1)), go(), *fires(1), (call(cmd="stop"), OK), snap(data),
+               status(1, '"stop"', "stopped", specfails=8 * draws - count)]
+
+
+def parts():
+    """Parts of each size, filled by firings of 62 records of twelve bytes each, and a record more at least, which is dropped; committed as one record."""
+    place = 0
+    for size in near(1 << 16, 4):
+        kept = size // 12
+        firings = kept // 62 + 1
+        records = [f"{2 + clause:08x}" + number(it) for it in range(place, place + firings) for clause in range(62)]
+        place += firings
+        yield [option("specsize", size), option("bufsize", 1 << 16),
+               (enable("BEGIN{self->s = speculation()}" + "read:entry{speculate(1); trace(arg0)}" * 62 + "END{commit(1)}"), enabled(64)), go(),
+               *fires(firings), (call(cmd="stop"), OK), snap("".join(records[:kept])),
+               status(firings, '"stop"', "stopped", specdrops=len(records) - kept)]
 
 
 def levels():
@@ -115,10 +153,10 @@ def lines():
 
 
 def sizes(folder):
-    """Sessions on a machine whose firings have their places as arguments."""
+    """Sessions on a machine whose firings have their places as arguments and as threads."""
     path = folder / "machine.json"
-    path.write_text(machine([[fired(place) for place in range(FIRINGS_MAX)]]))
-    for part in (texts, consumers, literals, buffers, every_option, stores, levels, lines):
+    path.write_text(machine([[fired(place, tid=place) for place in range(FIRINGS_MAX)]]))
+    for part in (texts, consumers, literals, buffers, every_option, stores, variables, speculations, parts, levels, lines):
         yield from sessions(path, part.__name__, part())
 
 
@@ -157,7 +195,7 @@ def long_histories(folder):
 def history_of(size, fired_on, cpus):
     """A session whose history has this many firings: these processors fire, one after the other."""
     zeros = json.dumps([0] * cpus, separators=(",", ":"))
-    ended = f'{{"aggdrops":{zeros},"cause":"history","errors":{zeros},"exit":null,"ok":true,"phase":"stopped","seen":{size}}}'
+    ended = f'{{"aggdrops":{zeros},"cause":"history","dyndrops":{zeros},"errors":{zeros},"exit":null,"ok":true,"phase":"stopped","seen":{size},"specdrops":{zeros},"specfails":0}}'
     return [option("histsize", size), (enable("read:entry{@ = count()}"), enabled(1)), go(), *((f"fire {cpu}", None) for cpu in fired_on),
             table("count", [{"key": [], "value": size}]), (call(cmd="status"), ended)]
 
@@ -262,7 +300,7 @@ def processors(folder):
         path.write_text(machine([[fired(place)] for place in range(count)]))
         shown = [snap(f"{1:08x}" + number(cpu), cpu=cpu) for cpu in range(count)]
         none = ",".join(["0"] * count)
-        told = (call(cmd="status"), f'{{"aggdrops":[{none}],"cause":null,"errors":[{none}],"exit":null,"ok":true,"phase":"active","seen":{count}}}')
+        told = (call(cmd="status"), f'{{"aggdrops":[{none}],"cause":null,"dyndrops":[{none}],"errors":[{none}],"exit":null,"ok":true,"phase":"active","seen":{count},"specdrops":[{none}],"specfails":0}}')
         yield from sessions(path, f"{count} processors", [
             [(enable("read:entry{trace(arg0); @ = sum(arg0 + 1)}"), enabled(1)), go(), *((f"fire {cpu}", None) for cpu in range(count)), *shown,
              (call(cmd="snap", cpu=count), '{"error":12,"name":"NoCpu"}'), told,

@@ -97,8 +97,9 @@ def table(function, rows, name=""):
     return call(cmd="agg", name=name), f'{{"fn":"{function}","name":"{name}","ok":true,"rows":{rows}}}'
 
 
-def status(seen, cause="null", phase="active", aggdrops=0):
-    reply = f'{{"aggdrops":[{aggdrops}],"cause":{cause},"errors":[0],"exit":null,"ok":true,"phase":"{phase}","seen":{seen}}}'
+def status(seen, cause="null", phase="active", aggdrops=0, dyndrops=0, specdrops=0, specfails=0):
+    reply = (f'{{"aggdrops":[{aggdrops}],"cause":{cause},"dyndrops":[{dyndrops}],"errors":[0],"exit":null,"ok":true,"phase":"{phase}","seen":{seen},'
+             f'"specdrops":[{specdrops}],"specfails":{specfails}}}')
     return call(cmd="status"), reply
 
 

@@ -28,7 +28,7 @@ TRAIL_BYTES = 16 * HISTORY_MAX
 # how many descriptors a service may have that is short of them
 DESCRIPTORS = 40
 NOBODY = 65_534
-STATUS_REPLY = b'{"aggdrops":[0],"cause":null,"errors":[0],"exit":null,"ok":true,"phase":"inactive","seen":0}\n'
+STATUS_REPLY = b'{"aggdrops":[0],"cause":null,"dyndrops":[0],"errors":[0],"exit":null,"ok":true,"phase":"inactive","seen":0,"specdrops":[0],"specfails":0}\n'
 FULL = b'{"error":17,"name":"Full"}\n'
 NO_PRIVILEGE = b'{"error":18,"name":"NoPrivilege"}\n'
 QUOTA = b'{"error":15,"name":"Quota"}\n'

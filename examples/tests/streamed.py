@@ -9,7 +9,7 @@ import threading
 from running import PROGRAM, call, judge, machine, text_of
 
 FAULT = b"fault\n"
-REPLY = b'0 {"aggdrops":[0],"cause":null,"errors":[0],"exit":null,"ok":true,"phase":"inactive","seen":0}\n'
+REPLY = b'0 {"aggdrops":[0],"cause":null,"dyndrops":[0],"errors":[0],"exit":null,"ok":true,"phase":"inactive","seen":0,"specdrops":[0],"specfails":0}\n'
 
 
 TRAIL = b"account root\n"

@@ -1,7 +1,6 @@
 -- What a clause that is taken leaves.
 use Rattle.std.proofs.Common.{◌≡◌, ℕ, ℤ, pos, ◌+◌, ◌<◌, Bool, List, [], ◌∷◌, ◌++◌, length, get_or}
 use Rattle.std.proofs.Common.{map, take, drop, Option, Some, None, refl, sym, ap, ◌∙◌}
-use Rattle.std.specs.Option.{option_map_or}
 use Rattle.std.proofs.lemmas.List.{append-nil, get_or-drop, length-map, map-append, take_more}
 use Rattle.dt_aggstore.specs.History as store
 use Rattle.dt_aggstore.specs.declared.key.Aggregation.{Aggregation}
@@ -14,38 +13,28 @@ use Rattle.dt_lang.specs.Program.{ClauseForm, form_of_argument, form_of_clause, 
 use Rattle.dt_program.specs.declared.clause.Clause.{Clause}
 use Rattle.dt_program.specs.declared.clause.AggregationUse as program
 use Rattle.dt_program.specs.declared.clause.Statement.{Statement}
-use Rattle.dt_program.specs.declared.clause.Statement.TheVariants.{Aggregate, Exit, Stack, Trace, Ustack}
-use Rattle.dt_record.specs.Taking.{Outcome, TakenForm, leaves, left_in, taking}
+use Rattle.dt_program.specs.declared.clause.Statement.TheVariants.{Aggregate, Assign, Commit, Discard, Draw, Exit, Speculate, Stack, Trace, Ustack}
+use Rattle.dt_record.specs.Taking.{taking}
 use Rattle.dt_machine.specs.Context.{ContextForm}
-use Rattle.dt_life.specs.Aggregations.{aggregation_of, contributions_of, number_given}
+use Rattle.dt_life.specs.Aggregations.{aggregation_of, number_given}
 use Rattle.dt_life.specs.Following.{taking_by}
-use Rattle.dt_life.specs.Takings.{Taking, scene_at, taking_of}
+use Rattle.dt_life.specs.Options.{OptionsForm}
+use Rattle.dt_life.specs.Takings.{scene_at}
+use Rattle.dt_life.specs.TracingSteps.{TracingStep, past_of_steps}
 use Rattle.dt_life.specs.Aggregations.{UseForm, contribution_at, key_at, number_at, split_by, use_by, uses_by}
 use Rattle.dt_life.specs.laws.Giving.{span, span_more, split_more, uses_more}
 use Rattle.dt_life.specs.laws.Takings.{clause_found}
 
-module _ (shapes : List ShapeForm) (in_end : Bool) (m : ContextForm) (clauses : List Clause) (ecb : Ecb)
+-- the clause of an ECB that is kept by its place
+module _ (in_end : Bool) (options : OptionsForm) (steps : List TracingStep) (m : ContextForm) (clauses : List Clause) (ecb : Ecb)
     (clause : Clause) (inside : ecb.clause < length clauses) (at : clause ≡ get_or clauses ecb.clause clause) where
-  abbrev taking_with : ClauseForm → Taking
-  taking_with c = taking_of in_end m (record { epid = ecb.epid; probe = ecb.probe; clause = c })
+  pub clause_is : (taking_by in_end options steps m (map form_of_clause clauses) ecb).ecb.clause ≡ form_of_clause clause
+  clause_is = clause_found clauses ecb.clause clause inside at
 
-  -- what comes of it
-  pub outcome_is : (outcome : Outcome) → taking ecb.epid (scene_at m ecb.epid) (form_of_clause clause) ≡ outcome
-      → (taking_by in_end m (map form_of_clause clauses) ecb).outcome ≡ outcome
-  outcome_is outcome e =
-      ap (λ (c : ClauseForm). taking ecb.epid (scene_at m ecb.epid) c)
-      (clause_found clauses ecb.clause clause inside at) ∙ e
-
-  -- what it gives, of the values that it left
-  pub left_given : (form : TakenForm) → taking ecb.epid (scene_at m ecb.epid) (form_of_clause clause) ≡ leaves form
-      → split_by (uses_by shapes (form_of_clause clause).statements) form.values
-      ≡ contributions_of shapes (taking_by in_end m (map form_of_clause clauses) ecb)
-  left_given form comes =
-      sym
-      (ap (λ (c : ClauseForm). contributions_of shapes (taking_with c))
+  pub taken_is : (taking_by in_end options steps m (map form_of_clause clauses) ecb).taken
+      ≡ taking ecb.epid (scene_at m ecb.epid) (past_of_steps options steps) (form_of_clause clause)
+  taken_is = ap (λ (c : ClauseForm). taking ecb.epid (scene_at m ecb.epid) (past_of_steps options steps) c)
       (clause_found clauses ecb.clause clause inside at)
-      ∙ ap (λ (o : Outcome). option_map_or
-      (λ (f : TakenForm). split_by (uses_by shapes (form_of_clause clause).statements) f.values) (left_in o) []) comes)
 
 -- the uses of the first statements, and of one more
 module _ (shapes : List ShapeForm) (statements : List Statement) (i : ℕ) (s : Statement)
@@ -126,3 +115,8 @@ other_use shapes (Stack n) none = refl
 other_use shapes (Ustack n) none = refl
 other_use shapes (Exit e) none = refl
 other_use shapes (Aggregate a) none = absurd (none a refl)
+other_use shapes (Assign name e) none = refl
+other_use shapes (Draw name) none = refl
+other_use shapes (Speculate e) none = refl
+other_use shapes (Commit e) none = refl
+other_use shapes (Discard e) none = refl

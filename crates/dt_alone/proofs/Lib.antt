@@ -3,6 +3,9 @@
 pub mod Bringing
 pub mod Firing
 pub mod Leaving
+pub mod Taken
+pub mod Telling
+pub mod ListSteps
 pub mod Running
 pub mod Showing
 pub mod Replying

@@ -16,14 +16,14 @@ use Rattle.dt_lang.specs.Fault.{why_of}
 use Rattle.dt_lang.specs.Refused.{because, destroys}
 use Rattle.dt_lang.specs.declared.word.Destructive.{Destructive}
 use Rattle.dt_program.specs.declared.clause.Clause.{Clause}
-use Rattle.dt_ecb.specs.Ecbs.{EcbForm, added, ecbs_of}
+use Rattle.dt_ecb.specs.Ecbs.{added, ecbs_of}
 use Rattle.dt_ecb.specs.Enable.{EnableVerdict, IsVerdict, is_enabled}
 use Rattle.dt_ecb.specs.Enable as enabling
 use Rattle.dt_ecb.specs.Forms.{form_of_ecb, shapes_of}
 use Rattle.dt_ecb.specs.Shapes.{ShapeForm, uses_of}
 use Rattle.dt_ecb.specs.declared.parts.Ecb.{Ecb}
 use Rattle.dt_life.specs.Forms.{form_of_options}
-use Rattle.dt_alone.specs.Happened.{Brings, all_to}
+use Rattle.dt_alone.specs.Happened.{Brings, all_to, told_by}
 use Rattle.dt_alone.specs.Runs.{Answers, Has, HasIn, HasAsked, Runs}
 use Rattle.dt_aggstore.specs.declared.key.Aggregation.{Aggregation}
 use Rattle.dt_buffer.specs.Shows.{Shows}
@@ -38,17 +38,16 @@ use Rattle.dt_life.specs.Acceptance.{after_line}
 use Rattle.dt_life.specs.Answer.{answer_of, enabled}
 use Rattle.dt_life.specs.Answer as answers
 use Rattle.dt_life.specs.Ask.{Ask, close, enable, go, option, snap, stop, trunc, reading_of, is_read}
-use Rattle.dt_life.specs.Buffers.{comes_since, past, reserve_on}
+use Rattle.dt_life.specs.Buffers.{comes_by_steps, past, reserve_on}
 use Rattle.dt_life.specs.Placed.{AreEcbs, placed_after}
 use Rattle.dt_life.specs.Life.{Item, asked, SetUp, ecbs_in, end_size, happens, has_room, is_inactive, is_over, is_readable}
-use Rattle.dt_life.specs.Life.{is_stopped, lines, next_epid, phase, phase_of, set_up, shapes_in, since_then, with_event}
+use Rattle.dt_life.specs.Life.{is_stopped, lines, next_epid, phase, phase_of, set_up, shapes_in, since_then, tracing_steps, with_event}
 use Rattle.dt_life.specs.Life.{with_options, with_program}
 use Rattle.dt_life.specs.Options.{OptionsForm, Setting, is_fill, with_setting}
 use Rattle.dt_life.specs.Refusal.{refused_as}
 use Rattle.dt_life.specs.Reply.{Accepted, Replies, known, IsVerdictOnCommand, refusal_of}
-use Rattle.dt_life.specs.Stores.{given_since}
-use Rattle.dt_life.specs.Takings.{TracingEvent, began, ended, snapped, truncated, closed, faults as failures}
-use Rattle.dt_life.specs.TracingSteps.{taken_since}
+use Rattle.dt_life.specs.Takings.{began, ended, snapped, truncated, closed}
+use Rattle.dt_life.specs.TracingSteps.{steps_since}
 use Rattle.dt_life.specs.declared.phase.End.{End}
 use Rattle.dt_life.specs.declared.phase.End.TheVariants as ends
 use Rattle.dt_life.specs.declared.phase.Phase.{Phase}
@@ -65,7 +64,8 @@ use Rattle.dt_life.specs.laws.Verdicts.{idle_unset, option_refused, option_taken
 use Rattle.dt_life.specs.laws.Verdicts.{closed_by, in_quota, set_by}
 use Rattle.dt_life.specs.laws.Lines.{after_counted}
 use Rattle.dt_life.specs.laws.Placed.{are_placed}
-use Rattle.dt_alone.proofs.Running.{Told, has_since, told_closed, told_snapped, told_truncated}
+use Rattle.dt_alone.proofs.Running.{Brought, KeptBy, brought_closed, brought_snapped, brought_truncated, has_since, kept_snapped}
+use Rattle.dt_alone.proofs.Running.{kept_truncated, none_kept}
 
 pub idle_phase : (phase : Phase) → is_inactive phase ≡ true → phase ≡ Inactive
 idle_phase Inactive e = refl
@@ -109,19 +109,28 @@ has_alike account registry s p old new h a options programs q standing idle = re
   standing = standing;
   idle = λ e. h.idle (idle e);
   seen = a.seen ∙ h.seen;
-  brings = subst (λ (v : Vec Happened). Told account registry s v.items) (sym a.since) h.brings;
+  brings = subst (λ (v : Vec Happened). Brought account registry s v.items) (sym a.since) h.brings;
+}
+
+-- a runner that keeps what another does
+pub has_same : (account : Account) (registry : Registry) (s : SetUp) (old new : Runner) → Has account registry s old
+    → Alike old new → new.options ≡ old.options → new.programs ≡ old.programs → new.phase ≡ old.phase → new.kept ≡ old.kept
+    → Has account registry s new
+has_same account registry s old new h a options programs standing kept = record {
+  within = has_alike account registry s (phase_of s) old new h.within a options programs (phase_of s)
+      (standing ∙ h.within.standing) (λ e. e);
+  kept = subst (KeptBy account registry s) (sym kept) h.kept;
 }
 
 -- a line that is no command is refused, and is part of the life
 pub no_command : (account : Account) (registry : Registry) (life : List Item) (old new : Runner)
     (line : Result Ask Refusal) (why : Refusal) → Runs account registry old life → is_over life ≡ false → line ≡ Err why
     → Alike old new → new.options ≡ old.options → new.programs ≡ old.programs → new.phase ≡ old.phase
-    → new.lines ≡ old.lines + 1
+    → new.kept ≡ old.kept → new.lines ≡ old.lines + 1
     → Replies account registry life line (answers.refused why) × Runs account registry new (after_line life line)
-no_command account registry life old new line why runs fresh is same options programs standing counts =
+no_command account registry life old new line why runs fresh is same options programs standing kept counts =
     let s = set_up account registry life in
-    let has = has_alike account registry s (phase_of s) old new runs.has same options programs (phase_of s)
-    (standing ∙ runs.has.standing) (λ e. e) in
+    let has = has_same account registry s old new runs.has same options programs standing kept in
     let now : Runs account registry new (asked (Err why) ∷ life) =
     record { has = has; counted = omega (arith, counts, runs.counted) } in
     subst
@@ -144,7 +153,7 @@ module _ (account : Account) (registry : Registry) (life : List Item) (r : Runne
 
   -- how far the life has come
   pub stands : r.phase ≡ phase account registry life
-  stands = k.has.standing
+  stands = k.has.within.standing
 
   pub begun : is_inactive r.phase ≡ false → is_inactive (phase account registry life) ≡ false
   begun e = sym (ap is_inactive stands) ∙ e
@@ -172,36 +181,52 @@ module _ (account : Account) (registry : Registry) (life : List Item) (r : Runne
   pub early : is_inactive r.phase ≡ true → phase account registry life ≡ Inactive
   early e = idle_phase (phase account registry life) (sym (ap is_inactive stands) ∙ e)
 
+  -- nothing was taken before tracing begins, whatever is set and enabled
+  brings_still : (t : SetUp) → t.since ≡ [] → phase account registry life ≡ Inactive
+      → Brings registry.cpus (shapes_in t) t.options r.since.items (tracing_steps account registry t)
+  brings_still t none off = λ cpu inside.
+      k.has.within.brings cpu inside
+      ∙ ap (λ events. told_by (shapes_in now) now.options
+      (steps_since account registry now.options (ecbs_in account registry now) events) cpu) (k.has.within.idle off)
+      ∙ sym (ap (λ events. told_by (shapes_in t) t.options
+      (steps_since account registry t.options (ecbs_in account registry t) events) cpu) none)
+
   -- other options
   pub has_options : (options : Options) (new : Runner) → Alike r new → new.options ≡ options
-      → new.programs ≡ r.programs → new.phase ≡ r.phase
+      → new.programs ≡ r.programs → new.phase ≡ r.phase → new.kept ≡ r.kept → phase account registry life ≡ Inactive
       → Has account registry (with_options (set_up account registry life) (form_of_options options)) new
-  has_options options new a set programs same = record {
-    same_account = a.account ∙ k.has.same_account;
-    options = ap form_of_options set;
-    clauses = ap (λ (x : Programs). map form_of_clause x.clauses.items) programs ∙ k.has.clauses;
-    ecbs = subst (λ (x : Programs). AreEcbs now.clauses (ecbs_in account registry now) x.ecbs.items) (sym programs)
-        k.has.ecbs;
-    shapes = ap (λ (x : Programs). shapes_of x.shapes) programs ∙ k.has.shapes;
-    standing = same ∙ k.has.standing;
-    idle = k.has.idle;
-    seen = a.seen ∙ k.has.seen;
-    brings = subst (λ (v : Vec Happened). Told account registry now v.items) (sym a.since) k.has.brings;
+  has_options options new a set programs same kept off = record {
+    within = record {
+      same_account = a.account ∙ k.has.within.same_account;
+      options = ap form_of_options set;
+      clauses = ap (λ (x : Programs). map form_of_clause x.clauses.items) programs ∙ k.has.within.clauses;
+      ecbs = subst (λ (x : Programs). AreEcbs now.clauses (ecbs_in account registry now) x.ecbs.items) (sym programs)
+          k.has.within.ecbs;
+      shapes = ap (λ (x : Programs). shapes_of x.shapes) programs ∙ k.has.within.shapes;
+      standing = same ∙ k.has.within.standing;
+      idle = k.has.within.idle;
+      seen = a.seen ∙ k.has.within.seen;
+      brings = subst (λ (v : Vec Happened). Brings registry.cpus (shapes_in now) (form_of_options options) v.items
+          (tracing_steps account registry (with_options now (form_of_options options)))) (sym a.since)
+          (brings_still (with_options now (form_of_options options)) (k.has.within.idle off) off);
+    };
+    kept = subst (KeptBy account registry (with_options now (form_of_options options))) (sym kept)
+        (none_kept account registry now (with_options now (form_of_options options)) r.kept off off k.has.kept);
   }
 
   -- an option that is set, or is none
   pub option_set : (o : Option Setting) (options : Options) (new : Runner) → phase account registry life ≡ Inactive
       → Some (form_of_options options) ≡ option_map (with_setting (form_of_options r.options)) o
-      → Alike r new → new.options ≡ options → new.programs ≡ r.programs → new.phase ≡ r.phase → new.lines ≡ r.lines
-      → Answers account registry life (option o) Done new
-  option_set None options new off e a is programs same lines = cc
-  option_set (Some one) options new off e a is programs same lines =
+      → Alike r new → new.options ≡ options → new.programs ≡ r.programs → new.phase ≡ r.phase → new.kept ≡ r.kept
+      → new.lines ≡ r.lines → Answers account registry life (option o) Done new
+  option_set None options new off e a is programs same kept lines = cc
+  option_set (Some one) options new off e a is programs same kept lines =
       let set : form_of_options options ≡ with_setting (form_of_options r.options) one = cc in
       accepts_as (option (Some one)) Done new _ (option_taken account registry life one off) refl
       (set_by account registry life one off
-      ∙ ap (λ (o : OptionsForm). with_options now (with_setting o one)) (sym k.has.options)
+      ∙ ap (λ (o : OptionsForm). with_options now (with_setting o one)) (sym k.has.within.options)
       ∙ ap (with_options now) (sym set))
-      (has_options options new a is programs same) lines
+      (has_options options new a is programs same kept off) lines
 
   pub option_unset : (o : Option Setting) → phase account registry life ≡ Inactive
       → None ≡ option_map (with_setting (form_of_options r.options)) o
@@ -221,7 +246,7 @@ module _ (account : Account) (registry : Registry) (life : List Item) (r : Runne
       (go_taken account registry life off room)
       refl (begun_by_go account registry life off room)
       (subst (λ (s : SetUp). Has account registry (happens account registry s began) new)
-      (ap (since_then now) (k.has.idle off)) has)
+      (ap (since_then now) (k.has.within.idle off)) has)
       same
 
   -- it ended
@@ -240,7 +265,7 @@ module _ (account : Account) (registry : Registry) (life : List Item) (r : Runne
       ap (λ x. cond (is_fill now.options.bufpolicy && x) (end_size account registry now) 0) e
 
   own_size : r.options.bufsize ≡ now.options.bufsize
-  own_size = ap (λ (o : OptionsForm). o.bufsize) k.has.options
+  own_size = ap (λ (o : OptionsForm). o.bufsize) k.has.within.options
 
   pub room_on : (cpu room : ℕ) → cpu ≡ 0
       → room ≡ (set_up account registry life).options.bufsize - reserve_on account registry
@@ -260,59 +285,67 @@ module _ (account : Account) (registry : Registry) (life : List Item) (r : Runne
       neither false = refl
 
   -- what is shown of all that happened is shown of the past
-  pub shows_past : (cpu : ℕ) (bytes : List ℕ) (drops : ℕ) (filled : Bool) (hs : List Happened) → hs ≡ r.since.items
-      → Shows (record {
+  pub shows_past : (cpu : ℕ) (bytes : List ℕ) (drops : ℕ) (filled : Bool) (hs : List Happened) → cpu < registry.cpus
+      → hs ≡ r.since.items → Shows (record {
         policy = r.options.bufpolicy;
         size = r.options.bufsize;
         reserve = reserve_on account registry (set_up account registry life) cpu;
         events = all_to cpu hs;
       }) bytes drops filled → Shows (past account registry life cpu) bytes drops filled
-  shows_past cpu bytes drops filled hs same h =
+  shows_past cpu bytes drops filled hs inside same h =
       subst (λ (o : OptionsForm). Shows (record {
         policy = o.bufpolicy;
         size = o.bufsize;
         reserve = reserve_on account registry (set_up account registry life) cpu;
-        events = comes_since account registry (ecbs_in account registry now) cpu now.since;
-      }) bytes drops filled) k.has.options
+        events = comes_by_steps cpu (tracing_steps account registry now);
+      }) bytes drops filled) k.has.within.options
       (subst (λ es. Shows (record {
         policy = r.options.bufpolicy;
         size = r.options.bufsize;
         reserve = reserve_on account registry (set_up account registry life) cpu;
         events = es;
-      }) bytes drops filled) (ap (all_to cpu) same ∙ (k.has.brings cpu).buffer) h)
+      }) bytes drops filled) (ap (all_to cpu) same ∙ ap (λ t. t.came) (k.has.within.brings cpu inside)) h)
 
   -- a buffer was read
   pub snap_done : (cpu drops : ℕ) (filled : Bool) (bytes : Vec ℕ) (new : Runner) → cpu < registry.cpus
       → is_readable (set_up account registry life) (phase account registry life) ≡ true
       → Shows (past account registry life cpu) bytes.items drops filled
       → new.account ≡ r.account → new.options ≡ r.options → new.programs ≡ r.programs → new.phase ≡ r.phase
-      → new.seen ≡ r.seen → new.since.items ≡ r.since.items ++ happened.Snapped cpu ∷ [] → new.lines ≡ r.lines
+      → new.seen ≡ r.seen → new.since.items ≡ r.since.items ++ happened.Snapped cpu ∷ [] → new.kept ≡ r.kept → new.lines ≡ r.lines
       → Answers account registry life (snap cpu) (Snapped cpu bytes drops filled) new
   snap_done cpu drops filled bytes new inside on shows same_account same_options same_programs same_phase same_seen
-      grown same =
+      grown kept same =
       accepts_as (snap cpu) (Snapped cpu bytes drops filled) new _ (snap_taken account registry life cpu inside on)
       (bytes.items, drops, filled, shows, refl) (snapped_by account registry life cpu inside on)
-      (has_since account registry now (snapped cpu ∷ now.since) (phase_of now) (phase_of now) r new k.has same_account
-      same_options same_programs (same_phase ∙ stands) (readable_begun now (phase account registry life) on)
-      (same_seen ∙ k.has.seen)
-      (subst (λ hs. Told account registry (with_event now (snapped cpu)) hs) (sym grown)
-      (told_snapped account registry now cpu r.since.items k.has.brings)))
+      (record {
+        within = has_since account registry now (snapped cpu ∷ now.since) (phase_of now) (phase_of now) r new k.has.within
+            same_account same_options same_programs (same_phase ∙ stands) (readable_begun now (phase account registry life) on)
+            (same_seen ∙ k.has.within.seen)
+            (subst (λ hs. Brought account registry (with_event now (snapped cpu)) hs) (sym grown)
+            (brought_snapped account registry now cpu r.since.items k.has.within.brings));
+        kept = subst (KeptBy account registry (with_event now (snapped cpu))) (sym kept)
+            (kept_snapped account registry now cpu r.kept k.has.kept);
+      })
       same
 
   -- an aggregation was truncated
   pub trunc_done : (name : List ℕ) (a : Aggregation) (new : Runner)
       → is_inactive (phase account registry life) ≡ false → known account registry life name ≡ Some a
       → new.account ≡ r.account → new.options ≡ r.options → new.programs ≡ r.programs → new.phase ≡ r.phase
-      → new.seen ≡ r.seen → new.since.items ≡ r.since.items ++ Truncated a ∷ [] → new.lines ≡ r.lines
+      → new.seen ≡ r.seen → new.since.items ≡ r.since.items ++ Truncated a ∷ [] → new.kept ≡ r.kept → new.lines ≡ r.lines
       → Answers account registry life (trunc name) Done new
-  trunc_done name a new on is same_account same_options same_programs same_phase same_seen grown same =
+  trunc_done name a new on is same_account same_options same_programs same_phase same_seen grown kept same =
       accepts_as (trunc name) Done new _ (some_trunc account registry life name a is) refl
       (truncated_by account registry life name a on is)
-      (has_since account registry now (truncated name ∷ now.since) (phase_of now)
-      (phase_of now) r new k.has same_account
-      same_options same_programs (same_phase ∙ stands) on (same_seen ∙ k.has.seen)
-      (subst (λ hs. Told account registry (with_event now (truncated name)) hs) (sym grown)
-      (told_truncated account registry now name a r.since.items is k.has.brings)))
+      (record {
+        within = has_since account registry now (truncated name ∷ now.since) (phase_of now)
+            (phase_of now) r new k.has.within same_account
+            same_options same_programs (same_phase ∙ stands) on (same_seen ∙ k.has.within.seen)
+            (subst (λ hs. Brought account registry (with_event now (truncated name)) hs) (sym grown)
+            (brought_truncated account registry now name a r.since.items is k.has.within.brings));
+        kept = subst (KeptBy account registry (with_event now (truncated name))) (sym kept)
+            (kept_truncated account registry now name r.kept k.has.kept);
+      })
       same
 
   -- before tracing begins nothing is truncated
@@ -326,14 +359,17 @@ module _ (account : Account) (registry : Registry) (life : List Item) (r : Runne
   -- the session was closed while tracing went on, or before it began
   pub close_done : (new : Runner) → is_stopped r.phase ≡ false → new.account ≡ r.account → new.options ≡ r.options
       → new.programs ≡ r.programs → new.phase ≡ Stopped None → new.seen ≡ r.seen → new.since ≡ r.since
-      → new.lines ≡ r.lines → Answers account registry life close Done new
-  close_done new going same_account same_options same_programs same_phase same_seen same_since same =
+      → new.kept ≡ None → new.lines ≡ r.lines → Answers account registry life close Done new
+  close_done new going same_account same_options same_programs same_phase same_seen same_since kept same =
       accepts_as close Done new (with_event now closed) refl refl
       (closed_by account registry life false (sym (ap is_stopped stands) ∙ going))
-      (has_since account registry now (closed ∷ now.since) (phase_of now) (Stopped None) r new k.has same_account
-      same_options same_programs same_phase refl (same_seen ∙ k.has.seen)
-      (subst (λ (v : Vec Happened). Told account registry (with_event now closed) v.items) (sym same_since)
-      (told_closed account registry now r.since.items k.has.brings)))
+      (record {
+        within = has_since account registry now (closed ∷ now.since) (phase_of now) (Stopped None) r new k.has.within
+            same_account same_options same_programs same_phase refl (same_seen ∙ k.has.within.seen)
+            (subst (λ (v : Vec Happened). Brought account registry (with_event now closed) v.items) (sym same_since)
+            (brought_closed account registry now r.since.items k.has.within.brings));
+        kept = subst (KeptBy account registry (with_event now closed)) (sym kept) (λ e. cc);
+      })
       same
 
   -- or after it had stopped
@@ -341,24 +377,6 @@ module _ (account : Account) (registry : Registry) (life : List Item) (r : Runne
   close_idle stopped =
       accepts_as close Done r now refl refl
       (closed_by account registry life true (sym (ap is_stopped stands) ∙ stopped)) k.has refl
-
-  -- nothing was taken before tracing begins, whatever is enabled
-  brings_still : (ecbs : List EcbForm) (shapes : List ShapeForm) → phase account registry life ≡ Inactive → (cpu : ℕ)
-      → Brings cpu r.since.items (comes_since account registry ecbs cpu now.since)
-      (failures (taken_since account registry ecbs cpu now.since))
-      (given_since account registry shapes ecbs cpu now.since)
-  brings_still ecbs shapes off cpu =
-      let none : (set_up account registry life).since ≡ [] = k.has.idle off in
-      let own = ecbs_in account registry (set_up account registry life) in
-      let P : List TracingEvent → Type 0 = λ events. Brings cpu r.since.items
-      (comes_since account registry (ecbs_in account registry (set_up account registry life)) cpu events)
-      (failures (taken_since account registry (ecbs_in account registry (set_up account registry life)) cpu events))
-      (given_since account registry (shapes_in (set_up account registry life))
-      (ecbs_in account registry (set_up account registry life)) cpu events) in
-      let Q : List TracingEvent → Type 0 = λ events. Brings cpu r.since.items
-      (comes_since account registry ecbs cpu events) (failures (taken_since account registry ecbs cpu events))
-      (given_since account registry shapes ecbs cpu events) in
-      subst Q (sym none) (subst P none (k.has.brings cpu))
 
   -- an accepted program
   module _ (clauses : List Clause) (ecbs : List Ecb) (off : phase account registry life ≡ Inactive) where
@@ -374,9 +392,9 @@ module _ (account : Account) (registry : Registry) (life : List Item) (r : Runne
         → programs.clauses.items ≡ r.programs.clauses.items ++ clauses
         → programs.ecbs.items ≡ r.programs.ecbs.items ++ map (placed_after (length r.programs.clauses.items)) ecbs
         → shapes_of programs.shapes ≡ shapes_of r.programs.shapes ++ uses_of forms
-        → Alike r new → new.options ≡ r.options → new.programs ≡ programs → new.phase ≡ r.phase
+        → Alike r new → new.options ≡ r.options → new.programs ≡ programs → new.phase ≡ r.phase → new.kept ≡ r.kept
         → Has account registry (with_program (set_up account registry life) (map form_of_clause clauses)) new
-    has_program go_on uses_both programs new are placed grown grown_ecbs shaped a same_options own same_phase =
+    has_program go_on uses_both programs new are placed grown grown_ecbs shaped a same_options own same_phase same_kept =
         let s = set_up account registry life in
         let long : length clauses ≡ length forms = sym (length-map clauses form_of_clause) in
         let here : AreEcbs forms (added account registry (next_epid account registry now) forms) ecbs =
@@ -384,36 +402,36 @@ module _ (account : Account) (registry : Registry) (life : List Item) (r : Runne
         let after : AreEcbs (now.clauses ++ forms) (added account registry (next_epid account registry now) forms)
         (map (placed_after (length r.programs.clauses.items)) ecbs) =
         are_placed now.clauses forms _ (length r.programs.clauses.items) ecbs _
-        (sym (length-map r.programs.clauses.items form_of_clause) ∙ ap length k.has.clauses) here refl in
-        let both = are_both now.clauses forms _ _ r.programs.ecbs.items _ k.has.ecbs after in
+        (sym (length-map r.programs.clauses.items form_of_clause) ∙ ap length k.has.within.clauses) here refl in
+        let both = are_both now.clauses forms _ _ r.programs.ecbs.items _ k.has.within.ecbs after in
         record {
-          same_account = a.account ∙ k.has.same_account;
-          options = ap form_of_options same_options ∙ k.has.options;
-          clauses =
-              ap (λ (x : Programs). map form_of_clause x.clauses.items) own
-              ∙ ap (map form_of_clause) grown ∙ map-append form_of_clause r.programs.clauses.items clauses
-              ∙ ap (λ cs. cs ++ forms) k.has.clauses;
-          ecbs =
-              subst (λ (x : Programs). AreEcbs (now.clauses ++ forms)
-              (ecbs_in account registry (with_program now forms)) x.ecbs.items) (sym own)
-              (subst (λ es. AreEcbs (now.clauses ++ forms) es programs.ecbs.items) (sym (go_on now.clauses forms))
-              (subst (λ xs. AreEcbs (now.clauses ++ forms)
-              (ecbs_of account registry now.clauses
-              ++ added account registry (length (ecbs_of account registry now.clauses) + 1) forms) xs)
-              (sym grown_ecbs) both));
-          shapes =
-              ap (λ (x : Programs). shapes_of x.shapes) own ∙ shaped
-              ∙ ap (λ shapes. shapes ++ uses_of forms) k.has.shapes ∙ sym (uses_both now.clauses forms);
-          standing = same_phase ∙ k.has.standing;
-          idle = k.has.idle;
-          seen = a.seen ∙ k.has.seen;
-          brings = λ cpu. subst (λ (v : Vec Happened). Brings cpu v.items
-              (comes_since account registry (ecbs_in account registry (with_program now forms)) cpu now.since)
-              (failures (taken_since account registry (ecbs_in account registry
-              (with_program now forms)) cpu now.since))
-              (given_since account registry (shapes_in (with_program now forms))
-              (ecbs_in account registry (with_program now forms)) cpu now.since))
-              (sym a.since) (brings_still _ _ off cpu);
+          within = record {
+            same_account = a.account ∙ k.has.within.same_account;
+            options = ap form_of_options same_options ∙ k.has.within.options;
+            clauses =
+                ap (λ (x : Programs). map form_of_clause x.clauses.items) own
+                ∙ ap (map form_of_clause) grown ∙ map-append form_of_clause r.programs.clauses.items clauses
+                ∙ ap (λ cs. cs ++ forms) k.has.within.clauses;
+            ecbs =
+                subst (λ (x : Programs). AreEcbs (now.clauses ++ forms)
+                (ecbs_in account registry (with_program now forms)) x.ecbs.items) (sym own)
+                (subst (λ es. AreEcbs (now.clauses ++ forms) es programs.ecbs.items) (sym (go_on now.clauses forms))
+                (subst (λ xs. AreEcbs (now.clauses ++ forms)
+                (ecbs_of account registry now.clauses
+                ++ added account registry (length (ecbs_of account registry now.clauses) + 1) forms) xs)
+                (sym grown_ecbs) both));
+            shapes =
+                ap (λ (x : Programs). shapes_of x.shapes) own ∙ shaped
+                ∙ ap (λ shapes. shapes ++ uses_of forms) k.has.within.shapes ∙ sym (uses_both now.clauses forms);
+            standing = same_phase ∙ k.has.within.standing;
+            idle = k.has.within.idle;
+            seen = a.seen ∙ k.has.within.seen;
+            brings = subst (λ (v : Vec Happened). Brings registry.cpus (shapes_in (with_program now forms)) now.options v.items
+                (tracing_steps account registry (with_program now forms))) (sym a.since)
+                (brings_still (with_program now forms) (k.has.within.idle off) off);
+          };
+          kept = subst (KeptBy account registry (with_program now forms)) (sym same_kept)
+              (none_kept account registry now (with_program now forms) r.kept off off k.has.kept);
         }
 
     -- how many ECBs a program added
@@ -428,7 +446,7 @@ module _ (account : Account) (registry : Registry) (life : List Item) (r : Runne
     arith,
     e,
     length-map r.programs.ecbs.items (form_of_ecb (set_up account registry life).clauses),
-    ap length k.has.ecbs.forms,
+    ap length k.has.within.ecbs.forms,
   )
 
   -- what is said of a program by the runner's parts is said by its set-up
@@ -440,8 +458,8 @@ module _ (account : Account) (registry : Registry) (life : List Item) (r : Runne
   program_asked clauses first o e is =
       subst
       (λ n. IfSome o (IsVerdict account registry (shapes_in (set_up account registry life)) n clauses)) e
-      (subst (λ shapes. IfSome o (IsVerdict account registry shapes first clauses)) k.has.shapes
-      (subst (λ a. IfSome o (IsVerdict a registry (shapes_of r.programs.shapes) first clauses)) k.has.same_account is))
+      (subst (λ shapes. IfSome o (IsVerdict account registry shapes first clauses)) k.has.within.shapes
+      (subst (λ a. IfSome o (IsVerdict a registry (shapes_of r.programs.shapes) first clauses)) k.has.within.same_account is))
 
   pub enabled_asked : (clauses : List ClauseForm) (first : ℕ) (ecbs : List Ecb)
       → first ≡ next_epid account registry (set_up account registry life)
@@ -457,10 +475,10 @@ module _ (account : Account) (registry : Registry) (life : List Item) (r : Runne
       × (map (form_of_ecb clauses) ecbs ≡ added account registry n clauses)) e
       (subst
       (λ shapes. IsVerdict account registry shapes first clauses enabling.enabled
-      × (map (form_of_ecb clauses) ecbs ≡ added account registry first clauses)) k.has.shapes
+      × (map (form_of_ecb clauses) ecbs ≡ added account registry first clauses)) k.has.within.shapes
       (subst
       (λ a. IsVerdict a registry (shapes_of r.programs.shapes) first clauses enabling.enabled
-      × (map (form_of_ecb clauses) ecbs ≡ added a registry first clauses)) k.has.same_account is))
+      × (map (form_of_ecb clauses) ecbs ≡ added a registry first clauses)) k.has.within.same_account is))
 
   -- a program that is accepted
   pub program_done : ((before more : List ClauseForm) → ecbs_of account registry (before ++ more)
@@ -477,10 +495,11 @@ module _ (account : Account) (registry : Registry) (life : List Item) (r : Runne
       → programs.clauses.items ≡ r.programs.clauses.items ++ clauses
       → programs.ecbs.items ≡ r.programs.ecbs.items ++ map (placed_after (length r.programs.clauses.items)) ecbs
       → shapes_of programs.shapes ≡ shapes_of r.programs.shapes ++ uses_of (map form_of_clause clauses)
-      → Alike r new → new.options ≡ r.options → new.programs ≡ programs → new.phase ≡ r.phase → new.lines ≡ r.lines
+      → Alike r new → new.options ≡ r.options → new.programs ≡ programs → new.phase ≡ r.phase → new.kept ≡ r.kept
+      → new.lines ≡ r.lines
       → Answers account registry life (enable (program (map form_of_clause clauses))) (Enabled count first) new
   program_done go_on uses_both clauses ecbs programs new count first off e is placed counts grown grown_ecbs shaped
-      a same_options own same_phase same =
+      a same_options own same_phase same_kept same =
       let forms = map form_of_clause clauses in
       let both = enabled_asked forms first ecbs e is in
       accepts_as (enable (program forms)) (Enabled count first) new
@@ -491,7 +510,7 @@ module _ (account : Account) (registry : Registry) (life : List Item) (r : Runne
       (program_added account registry life forms off both.0)
       (has_program clauses ecbs off go_on uses_both programs new both.1 placed grown grown_ecbs shaped a
       same_options own
-      same_phase)
+      same_phase same_kept)
       same
 
   -- a program that is refused

@@ -1,8 +1,9 @@
 -- A runner, as more happens.
-use Rattle.std.proofs.Common.{◌≡◌, ℕ, ℤ, ◌+◌, ◌==◌, ◌||◌, Bool, true, false, cond, List, [], ◌∷◌, ◌++◌}
+use Rattle.std.proofs.Common.{◌≡◌, ℕ, ℤ, ◌==◌, ◌||◌, ◌&&◌, Bool, true, false, not, cond, List, [], ◌∷◌, ◌++◌}
 use Rattle.std.proofs.Common.{filter, map, Option, Some, None, refl, sym, ap, ◌∙◌, subst, arith}
-use Rattle.std.specs.List.{list_any}
-use Rattle.std.specs.Option.{is_some, option_map, option_or, option_to_list}
+use Rattle.std.specs.Prelude.{count_by, zip}
+use Rattle.std.specs.List.{flat_map, list_any}
+use Rattle.std.specs.Option.{MatchOption, is_some, option_map, option_or, option_to_list}
 use Rattle.std.proofs.lemmas.List.{append-nil}
 use Rattle.dt_aggstore.specs.History as store
 use Rattle.dt_aggstore.specs.declared.key.Aggregation.{Aggregation}
@@ -11,89 +12,160 @@ use Rattle.dt_machine.specs.Registry.{Registry}
 use Rattle.dt_lang.specs.Program.{form_of_clause}
 use Rattle.dt_ecb.specs.Ecbs.{EcbForm, of_probe}
 use Rattle.dt_ecb.specs.Forms.{form_of_ecb, shapes_of}
+use Rattle.dt_ecb.specs.Shapes.{ShapeForm}
 use Rattle.dt_ecb.specs.declared.parts.Ecb.{Ecb}
 use Rattle.dt_life.specs.Forms.{form_of_options}
-use Rattle.dt_alone.specs.Happened.{AddsTakings, Brings}
-use Rattle.dt_alone.specs.Runs.{Has, HasIn}
+use Rattle.dt_locals.specs.Chosen.{locals_choice}
+use Rattle.dt_locals.specs.History.{Assignment}
+use Rattle.dt_record.specs.TracingAt.{TracingAt}
+use Rattle.dt_speculation.specs.Answers.{failed_draws}
+use Rattle.dt_speculation.specs.History.{SpecPast}
+use Rattle.dt_speculation.specs.Parts.{spec_drops}
+use Rattle.dt_alone.specs.Happened.{Brings, told_both, told_by}
+use Rattle.dt_alone.specs.Kept.{IsKeptAt}
+use Rattle.dt_alone.specs.Runs.{Has, HasIn, KeepsAfter}
 use Rattle.dt_alone.specs.Runs as runs
 use Rattle.dt_alone.specs.declared.happened.Happened.{Happened}
 use Rattle.dt_alone.specs.declared.happened.Happened.TheVariants.{Snapped, Truncated}
+use Rattle.dt_alone.specs.declared.kept.KeptState.{KeptState}
 use Rattle.dt_alone.specs.declared.programs.Programs.{Programs}
 use Rattle.dt_alone.specs.declared.runner.Runner.{Runner}
-use Rattle.dt_alone.proofs.Bringing.{brings_one, same_brings}
+use Rattle.dt_alone.proofs.Bringing.{same_told, told_more, told_of, told_one}
 use Rattle.dt_machine.specs.Context.{ContextForm}
 use Rattle.dt_life.specs.Aggregations.{aggregation_of}
-use Rattle.dt_life.specs.Buffers.{comes_by, comes_since, errors_in}
+use Rattle.dt_life.specs.Buffers.{comes_by}
+use Rattle.dt_life.specs.Options.{OptionsForm}
 use Rattle.dt_life.specs.Placed.{AreEcbs}
 use Rattle.dt_life.specs.Life.{SetUp, ecbs_in, end_by, happens, is_inactive, phase_of, seen_count, shapes_in}
-use Rattle.dt_life.specs.Life.{since_then, with_event}
-use Rattle.dt_life.specs.Stores.{given_on, given_since}
-use Rattle.dt_life.specs.Takings.{TracingEvent, Taking, began, seen, snapped, truncated, ended, closed, faults}
-use Rattle.dt_life.specs.Takings.{first_exit, is_end, context_at, taken_at, taken_by}
-use Rattle.dt_life.specs.TracingSteps.{taken_on, taken_since}
+use Rattle.dt_life.specs.Life.{since_then, tracing_steps, with_event}
+use Rattle.dt_life.specs.Stores.{given_on}
+use Rattle.dt_life.specs.Takings.{TracingEvent, began, seen, snapped, truncated, ended, closed, faults}
+use Rattle.dt_life.specs.Takings.{first_exit, is_end, context_at}
+use Rattle.dt_life.specs.TracingSteps.{TracingStep, assigned_in, reads, specs_of, speculated_in, steps_and, taken_at, taken_by, taken_on, truncates}
 use Rattle.dt_life.specs.declared.phase.End.{End}
 use Rattle.dt_life.specs.declared.phase.End.TheVariants.{Exit, History}
 use Rattle.dt_life.specs.declared.phase.Phase.{Phase}
-use Rattle.dt_life.specs.declared.phase.Phase.TheVariants.{Inactive}
+use Rattle.dt_life.specs.declared.phase.Phase.TheVariants.{Active, Inactive}
+use Rattle.dt_life.specs.laws.Buffers.{errors_more}
 use Rattle.dt_life.specs.laws.Lists.{filter-map}
-use Rattle.dt_life.specs.laws.TracingSteps.{after_close, after_snap, after_trunc}
-use Rattle.dt_life.specs.laws.Tracings.{IsFiring, by_is, comes_more, end_is, errors_more, given_more, happens_last}
-use Rattle.dt_life.specs.laws.Tracings.{happens_on}
+use Rattle.dt_life.specs.laws.Pasts.{past_same}
+use Rattle.dt_life.specs.laws.TracingSteps.{one_more}
+use Rattle.dt_life.specs.laws.Tracings.{IsFiring, by_is, end_is, happens_last, happens_on, steps_close, steps_more}
+
+-- what is told where something neither assigns nor speculates
+module _ (options : OptionsForm) (shapes : List ShapeForm) (steps : List TracingStep) (step : TracingStep) (cpu : ℕ)
+    (no_assignment : assigned_in step ≡ []) (no_event : speculated_in step ≡ []) where
+  abbrev drops_of : List (ℕ × Assignment) → ℕ
+  drops_of placed = count_by (λ (one : (ℕ × Assignment) × Bool). one.0.0 == cpu && not one.1)
+      (zip placed (locals_choice (record {
+        dynvarsize = options.dynvarsize;
+        assignments = map (λ (one : ℕ × Assignment). one.1) placed;
+      })))
+
+  same_specs : specs_of options (steps ++ step ∷ []) ≡ specs_of options steps
+  same_specs = ap (λ past. past.specs) (past_same options steps step no_assignment no_event)
+
+  pub quiet_tells : told_by shapes options (steps ++ step ∷ []) cpu ≡ told_both (told_by shapes options steps cpu)
+      (told_of (comes_by cpu step) (faults (taken_on cpu step)) (given_on shapes cpu step) 0 0 0)
+  quiet_tells =
+      same_told (told_by shapes options (steps ++ step ∷ []) cpu)
+      (told_both (told_by shapes options steps cpu)
+      (told_of (comes_by cpu step) (faults (taken_on cpu step)) (given_on shapes cpu step) 0 0 0))
+      (one_more (comes_by cpu) steps step) (errors_more steps cpu step) (one_more (given_on shapes cpu) steps step)
+      (ap drops_of (one_more assigned_in steps step ∙ ap (λ xs. flat_map assigned_in steps ++ xs) no_assignment
+      ∙ append-nil (flat_map assigned_in steps)) ∙ omega arith)
+      (ap (λ past. spec_drops past cpu) same_specs ∙ omega arith)
+      (ap (λ (past : SpecPast). failed_draws past.events) same_specs ∙ omega arith)
+
+-- a match, by what it says of each case
+pub match_map : {X : Type 0} (o : Option X) (A B : Type 0) (P Q : X → Type 0) → (A → B) → ((x : X) → P x → Q x)
+    → MatchOption o A P → MatchOption o B Q
+match_map None A B P Q f g m = f m
+match_map (Some x) A B P Q f g m = g x m
 
 module _ (account : Account) (registry : Registry) where
-  -- What happened is what a set-up says of each processor.
-  abbrev pub Told : SetUp → List Happened → Type 0
-  Told s happened = (cpu : ℕ) → Brings cpu happened
-      (comes_since account registry (ecbs_in account registry s) cpu s.since) (errors_in account registry s cpu)
-      (given_since account registry (shapes_in s) (ecbs_in account registry s) cpu s.since)
+  -- What happened is what a set-up says.
+  abbrev pub Brought : SetUp → List Happened → Type 0
+  Brought s happened = Brings registry.cpus (shapes_in s) s.options happened (tracing_steps account registry s)
+
+  -- what is kept while tracing goes on
+  abbrev pub KeptBy : SetUp → Option KeptState → Type 0
+  KeptBy s kept = MatchOption kept (phase_of s ≡ Active → ⊥) (λ own. (phase_of s ≡ Active) × KeepsAfter account registry s own)
+
+  -- before tracing begins nothing is kept
+  pub none_kept : (s t : SetUp) (kept : Option KeptState) → phase_of s ≡ Inactive → phase_of t ≡ Inactive → KeptBy s kept → KeptBy t kept
+  none_kept s t None e f h = λ on. let no : Inactive ≡ Active = sym f ∙ on in cc
+  none_kept s t (Some own) e f h = let no : Inactive ≡ Active = sym e ∙ h.0 in cc
+
+  -- what is kept is after the steps
+  pub kept_found : (s : SetUp) (kept : Option KeptState) (own : KeptState) → kept ≡ Some own → KeptBy s kept → KeepsAfter account registry s own
+  kept_found s kept own e h = (subst (KeptBy s) e h).1
 
   module _ (s : SetUp) where
-    abbrev ecbs : List EcbForm
-    ecbs = ecbs_in account registry s
-
     -- ECBs were taken
-    pub told_firing : (event : TracingEvent) (m : ContextForm) (old new : List Happened) → IsFiring event
-        → context_at account registry event ≡ Some m
-        → AddsTakings (shapes_in s) m.firing.cpu (taken_at (is_end event) (ecbs_in account registry s) m) old new
-        → Told s old → Told (with_event s event) new
-    told_firing event m old new fires at adds told = λ cpu.
-        same_brings cpu new _ _ _ _ _ _ (sym (comes_more account registry s event m fires at cpu))
-        (sym (errors_more account registry s event m fires at cpu))
-        (sym (given_more account registry s event m fires at cpu)) (adds cpu _ _ _ (told cpu))
+    abbrev pub steps_with : Bool → ContextForm → List TracingStep
+    steps_with in_end m = steps_and (tracing_steps account registry s)
+        (taken_at s.options (tracing_steps account registry s) in_end m (ecbs_in account registry s))
 
-    no_faults : (xs : List Taking) (n : ℕ) → faults xs ≡ n → n + 0 ≡ faults (xs ++ [])
-    no_faults xs n e = omega (arith, e, ap faults (append-nil xs))
+    module _ (event : TracingEvent) (m : ContextForm) (fires : IsFiring event)
+        (at : context_at account registry event ≡ Some m) where
+      pub brought_firing : (new : List Happened)
+          → Brings registry.cpus (shapes_in s) s.options new (steps_with (is_end event) m)
+          → Brought (with_event s event) new
+      brought_firing new told =
+          subst (Brings registry.cpus (shapes_in s) s.options new) (sym (steps_more account registry s event m at fires)) told
+
+      pub kept_firing : (kept : KeptState) → kept.cpus ≡ registry.cpus → IsKeptAt s.options (steps_with (is_end event) m) kept
+          → KeepsAfter account registry (with_event s event) kept
+      kept_firing kept all is = (
+        all,
+        subst (λ steps. IsKeptAt s.options steps kept) (sym (steps_more account registry s event m at fires)) is,
+      )
 
     -- the session was closed
-    pub told_closed : (old : List Happened) → Told s old → Told (with_event s closed) old
-    told_closed old told = λ cpu.
-        same_brings cpu old _ _ _ _ _ _ (sym (after_close (comes_by cpu) account registry ecbs s.since))
-        (ap faults (sym (after_close (taken_on cpu) account registry ecbs s.since)))
-        (sym (after_close (given_on (shapes_in s) cpu) account registry ecbs s.since)) (told cpu)
+    pub brought_closed : (old : List Happened) → Brought s old → Brought (with_event s closed) old
+    brought_closed old told =
+        subst (Brings registry.cpus (shapes_in s) s.options old) (sym (steps_close account registry s)) told
+
+    -- a step that neither assigns nor speculates
+    module _ (step : TracingStep) (x : Happened) (no_assignment : assigned_in step ≡ []) (no_event : speculated_in step ≡ [])
+        (tells : (cpu : ℕ) → told_of (comes_by cpu step) (faults (taken_on cpu step)) (given_on (shapes_in s) cpu step) 0 0 0
+        ≡ told_one cpu x) where
+      pub brought_quiet : (old : List Happened) → Brought s old
+          → Brings registry.cpus (shapes_in s) s.options (old ++ x ∷ []) (tracing_steps account registry s ++ step ∷ [])
+      brought_quiet old told = λ cpu inside.
+          told_more cpu old x ∙ ap (λ t. told_both t (told_one cpu x)) (told cpu inside)
+          ∙ ap (told_both (told_by (shapes_in s) s.options (tracing_steps account registry s) cpu)) (sym (tells cpu))
+          ∙ sym (quiet_tells s.options (shapes_in s) (tracing_steps account registry s) step cpu no_assignment no_event)
+
+    still_kept : (step : TracingStep) → assigned_in step ≡ [] → speculated_in step ≡ [] → (kept : KeptState)
+        → KeepsAfter account registry s kept
+        → (kept.cpus ≡ registry.cpus) × IsKeptAt s.options (tracing_steps account registry s ++ step ∷ []) kept
+    still_kept step no_assignment no_event kept h = (
+      h.0,
+      subst (λ past. TracingAt past kept.locals kept.specs)
+          (sym (past_same s.options (tracing_steps account registry s) step no_assignment no_event)) h.1,
+    )
 
     -- a buffer was read
-    pub told_snapped : (n : ℕ) (old : List Happened) → Told s old → Told (with_event s (snapped n)) (old ++ Snapped n ∷ [])
-    told_snapped n old told = λ cpu.
-        same_brings cpu (old ++ Snapped n ∷ []) _ _ _ _ _ _
-        (sym (after_snap (comes_by cpu) account registry ecbs s.since n))
-        (no_faults (taken_since account registry ecbs cpu s.since) _ refl
-        ∙ ap faults (sym (after_snap (taken_on cpu) account registry ecbs s.since n)))
-        (sym (after_snap (given_on (shapes_in s) cpu) account registry ecbs s.since n))
-        (brings_one cpu old (Snapped n) _ _ _ (told cpu))
+    pub brought_snapped : (n : ℕ) (old : List Happened) → Brought s old
+        → Brought (with_event s (snapped n)) (old ++ Snapped n ∷ [])
+    brought_snapped n old told = brought_quiet (reads n) (Snapped n) refl refl (λ cpu. refl) old told
+
+    pub kept_snapped : (n : ℕ) (kept : Option KeptState) → KeptBy s kept → KeptBy (with_event s (snapped n)) kept
+    kept_snapped n kept h =
+        match_map kept _ _ _ _ (λ none. none) (λ own at. (at.0, still_kept (reads n) refl refl own at.1)) h
 
     -- an aggregation was truncated
-    pub told_truncated : (name : List ℕ) (a : Aggregation) (old : List Happened)
-        → aggregation_of (shapes_in s) name ≡ Some a → Told s old
-        → Told (with_event s (truncated name)) (old ++ Truncated a ∷ [])
-    told_truncated name a old is told = λ cpu.
-        same_brings cpu (old ++ Truncated a ∷ []) _ _ _ _ _ _
-        (sym (after_trunc (comes_by cpu) account registry ecbs s.since name))
-        (no_faults (taken_since account registry ecbs cpu s.since) _ refl
-        ∙ ap faults (sym (after_trunc (taken_on cpu) account registry ecbs s.since name)))
-        (ap (λ o. given_since account registry (shapes_in s) ecbs cpu s.since
-        ++ option_to_list (option_map store.truncated o)) (sym is)
-        ∙ sym (after_trunc (given_on (shapes_in s) cpu) account registry ecbs s.since name))
-        (brings_one cpu old (Truncated a) _ _ _ (told cpu))
+    pub brought_truncated : (name : List ℕ) (a : Aggregation) (old : List Happened)
+        → aggregation_of (shapes_in s) name ≡ Some a → Brought s old
+        → Brought (with_event s (truncated name)) (old ++ Truncated a ∷ [])
+    brought_truncated name a old is told = brought_quiet (truncates name) (Truncated a) refl refl
+        (λ cpu. ap (λ o. told_of [] 0 (option_to_list (option_map store.truncated o)) 0 0 0) is) old told
+
+    pub kept_truncated : (name : List ℕ) (kept : Option KeptState) → KeptBy s kept → KeptBy (with_event s (truncated name)) kept
+    kept_truncated name kept h =
+        match_map kept _ _ _ _ (λ none. none) (λ own at. (at.0, still_kept (truncates name) refl refl own at.1)) h
 
   -- the ECBs of a runner are those of its set-up
   module _ (s : SetUp) (phase : Phase) (r : Runner) (h : HasIn account registry s phase r) where
@@ -102,13 +174,48 @@ module _ (account : Account) (registry : Registry) where
     own_ecbs = ap (λ cs. map (form_of_ecb cs) r.programs.ecbs.items) h.clauses ∙ h.ecbs.forms
 
     -- what a runner took is what is taken by its set-up
-    pub own_adds : (in_end : Bool) (m : ContextForm) (old new : List Happened)
-        → AddsTakings (shapes_of r.programs.shapes) m.firing.cpu (taken_at in_end
-        (map (form_of_ecb (map form_of_clause r.programs.clauses.items)) r.programs.ecbs.items) m) old new
-        → AddsTakings (shapes_in s) m.firing.cpu (taken_at in_end (ecbs_in account registry s) m) old new
-    own_adds in_end m old new adds =
-        subst (λ shapes. AddsTakings shapes m.firing.cpu (taken_at in_end (ecbs_in account registry s) m) old new) h.shapes
-        (subst (λ es. AddsTakings (shapes_of r.programs.shapes) m.firing.cpu (taken_at in_end es m) old new) own_ecbs adds)
+    abbrev own_steps : Bool → ContextForm → List TracingStep
+    own_steps in_end m = steps_and (tracing_steps account registry s) (taken_at s.options (tracing_steps account registry s) in_end m
+        (map (form_of_ecb (map form_of_clause r.programs.clauses.items)) r.programs.ecbs.items))
+
+    pub own_steps_are : (in_end : Bool) (m : ContextForm) → steps_and (tracing_steps account registry s)
+        (taken_at s.options (tracing_steps account registry s) in_end m
+        (map (form_of_ecb (map form_of_clause r.programs.clauses.items)) r.programs.ecbs.items))
+        ≡ steps_with s in_end m
+    own_steps_are in_end m = ap (λ es. steps_and (tracing_steps account registry s)
+        (taken_at s.options (tracing_steps account registry s) in_end m es)) own_ecbs
+
+    pub own_brought : (cpus : ℕ) → cpus ≡ registry.cpus
+        → Brings cpus (shapes_of r.programs.shapes) s.options r.since.items (tracing_steps account registry s)
+    own_brought cpus all =
+        subst (λ n. Brings n (shapes_of r.programs.shapes) s.options r.since.items (tracing_steps account registry s)) (sym all)
+        (subst (λ shapes. Brings registry.cpus shapes s.options r.since.items (tracing_steps account registry s)) (sym h.shapes)
+        h.brings)
+
+    module _ (event : TracingEvent) (m : ContextForm) (fires : IsFiring event)
+        (at : context_at account registry event ≡ Some m) (in_end : Bool) (which : is_end event ≡ in_end) (cpus : ℕ)
+        (all : cpus ≡ registry.cpus) where
+      pub took_brought : (new : List Happened)
+          → Brings cpus (shapes_of r.programs.shapes) s.options new (steps_and (tracing_steps account registry s)
+          (taken_at s.options (tracing_steps account registry s) in_end m
+          (map (form_of_ecb (map form_of_clause r.programs.clauses.items)) r.programs.ecbs.items)))
+          → Brought (with_event s event) new
+      took_brought new told =
+          brought_firing s event m fires at new
+          (subst (λ b. Brings registry.cpus (shapes_in s) s.options new (steps_with s b m)) (sym which)
+          (subst (Brings registry.cpus (shapes_in s) s.options new) (own_steps_are in_end m)
+          (subst (λ n. Brings n (shapes_in s) s.options new (own_steps in_end m)) all
+          (subst (λ shapes. Brings cpus shapes s.options new (own_steps in_end m)) h.shapes told))))
+
+      pub took_kept : (kept : KeptState) → kept.cpus ≡ registry.cpus
+          → IsKeptAt s.options (steps_and (tracing_steps account registry s)
+          (taken_at s.options (tracing_steps account registry s) in_end m
+          (map (form_of_ecb (map form_of_clause r.programs.clauses.items)) r.programs.ecbs.items))) kept
+          → KeepsAfter account registry (with_event s event) kept
+      took_kept kept every is =
+          kept_firing s event m fires at kept every
+          (subst (λ b. IsKeptAt s.options (steps_with s b m) kept) (sym which)
+          (subst (λ steps. IsKeptAt s.options steps kept) (own_steps_are in_end m) is))
 
   pub not_idle : (phase : Phase) → is_inactive phase ≡ false → phase ≡ Inactive → ⊥
   not_idle phase begun e = let no : true ≡ false = sym (ap is_inactive e) ∙ begun in cc
@@ -117,7 +224,7 @@ module _ (account : Account) (registry : Registry) where
   pub has_since : (s : SetUp) (events : List TracingEvent) (phase phase' : Phase) (old new : Runner)
       → HasIn account registry s phase old → new.account ≡ old.account → new.options ≡ old.options
       → new.programs ≡ old.programs → new.phase ≡ phase' → is_inactive phase' ≡ false → new.seen ≡ seen_count events
-      → Told (since_then s events) new.since.items → HasIn account registry (since_then s events) phase' new
+      → Brought (since_then s events) new.since.items → HasIn account registry (since_then s events) phase' new
   has_since s events phase phase' old new h same_account same_options same_programs standing begun counts told =
       record {
         same_account = same_account ∙ h.same_account;
@@ -134,21 +241,23 @@ module _ (account : Account) (registry : Registry) where
 
   -- tracing began, or a firing was seen
   module _ (s : SetUp) (event : TracingEvent) (exit : Option ℤ) (end : Option End) (history count : ℕ)
-      (exits : first_exit (taken_by account registry (ecbs_in account registry s) event) ≡ exit)
+      (exits : first_exit (taken_by account registry s.options (ecbs_in account registry s) (tracing_steps account registry s) event)
+      ≡ exit)
       (is : end ≡ option_or (option_map Exit exit) (cond (count == history) (Some History) None))
       (all : history ≡ s.options.histsize) (counts : count ≡ seen_count (event ∷ s.since)) where
-    pub ends_so : end_by account registry (with_event s event) event ≡ end
+    pub ends_so : end_by account registry s event ≡ end
     ends_so =
-        end_is account registry (with_event s event) event exit (count == history) exits
+        end_is account registry s event exit (count == history) exits
         (ap (λ n. n == s.options.histsize) (sym counts) ∙ ap (λ n. count == n) (sym all))
         ∙ sym is
 
     pub goes_on : (phase : Phase) (r : Runner) → end ≡ None
         → HasIn account registry (with_event s event) phase r → phase ≡ phase_of (with_event s event)
+        → KeptBy (with_event s event) r.kept
         → Has account registry (happens account registry s event) r
-    goes_on phase r none h stands =
+    goes_on phase r none h stands kept =
         subst (λ x. Has account registry x r) (sym (happens_on account registry s event (ends_so ∙ none)))
-        (subst (λ p. HasIn account registry (with_event s event) p r) stands h)
+        (record { within = subst (λ p. HasIn account registry (with_event s event) p r) stands h; kept = kept })
 
     pub ends_at : (e : End) (r : Runner) → end ≡ Some e
         → Has account registry (with_event (with_event s event) (ended e)) r
@@ -157,7 +266,7 @@ module _ (account : Account) (registry : Registry) where
         subst (λ x. Has account registry x r) (sym (happens_last account registry s event e (ends_so ∙ some))) h
 
 -- tracing began, or a firing was seen
-firing_is : (event : TracingEvent) → runs.IsFiring event → IsFiring event × (is_end event ≡ false)
+pub firing_is : (event : TracingEvent) → runs.IsFiring event → IsFiring event × (is_end event ≡ false)
 firing_is began is = (tt, refl)
 firing_is (seen firing) is = (tt, refl)
 firing_is (snapped n) is = absurd is
@@ -166,34 +275,18 @@ firing_is (ended end) is = absurd is
 firing_is closed is = absurd is
 
 module _ (account : Account) (registry : Registry) (s : SetUp) (event : TracingEvent) (m : ContextForm) (old : Runner)
-    (h : Has account registry s old) (fires : runs.IsFiring event)
+    (h : HasIn account registry s (phase_of s) old) (fires : runs.IsFiring event)
     (at : context_at account registry event ≡ Some m) where
-  -- what the runner takes
-  abbrev own_taken : List Taking
-  own_taken = taken_at false
-      (map (form_of_ecb (map form_of_clause old.programs.clauses.items)) old.programs.ecbs.items) m
-
-  is_taken : taken_at false
-      (map (form_of_ecb (map form_of_clause old.programs.clauses.items)) old.programs.ecbs.items) m
-      ≡ taken_at (is_end event) (ecbs_in account registry s) m
-  is_taken =
-      ap (λ es. taken_at false es m) (own_ecbs account registry s (phase_of s) old h)
-      ∙ ap (λ b. taken_at b (ecbs_in account registry s) m) (sym (firing_is event fires).1)
-
-  pub took_told : (new : List Happened)
-      → AddsTakings (shapes_of old.programs.shapes) m.firing.cpu own_taken old.since.items new
-      → Told account registry (with_event s event) new
-  took_told new adds =
-      told_firing account registry s event m old.since.items new (firing_is event fires).0 at
-      (subst (λ ts. AddsTakings (shapes_in s) m.firing.cpu ts old.since.items new) is_taken
-      (subst (λ shapes. AddsTakings shapes m.firing.cpu own_taken old.since.items new) h.shapes adds))
-      h.brings
-
-  pub took_exit : (exit : Option ℤ) → exit ≡ first_exit own_taken
-      → first_exit (taken_by account registry (ecbs_in account registry s) event) ≡ exit
+  pub took_exit : (exit : Option ℤ)
+      → exit ≡ first_exit (taken_at s.options (tracing_steps account registry s) false m
+      (map (form_of_ecb (map form_of_clause old.programs.clauses.items)) old.programs.ecbs.items))
+      → first_exit (taken_by account registry s.options (ecbs_in account registry s) (tracing_steps account registry s) event) ≡ exit
   took_exit exit e =
-      ap first_exit (by_is account registry s event m (firing_is event fires).0 at)
-      ∙ sym (e ∙ ap first_exit is_taken)
+      ap first_exit (by_is account registry s event m at
+      ∙ ap (λ b. taken_at s.options (tracing_steps account registry s) b m (ecbs_in account registry s)) (firing_is event fires).1
+      ∙ ap (taken_at s.options (tracing_steps account registry s) false m)
+      (sym (own_ecbs account registry s (phase_of s) old h)))
+      ∙ sym e
 
 -- what is none is not there
 pub never_some : {X : Type 0} (o : Option X) (b : Bool) → b ≡ is_some o → b ≡ true → o ≡ None → ⊥

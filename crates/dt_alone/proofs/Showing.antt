@@ -21,7 +21,7 @@ use Rattle.dt_buffer.specs.laws.Choices.{choice_more, concat-push}
 use Rattle.dt_alone.specs.Happened.{all_to, comes_to, fitting_on}
 use Rattle.dt_alone.specs.Shown.{IsBeginningOf, events_of, of_kind}
 use Rattle.dt_alone.specs.declared.happened.Happened.{Happened}
-use Rattle.dt_alone.specs.declared.happened.Happened.TheVariants.{Failed, Left, Snapped, Truncated}
+use Rattle.dt_alone.specs.declared.happened.Happened.TheVariants.{Committed, DrawFailed, Failed, Left, RecordDropped, Snapped, Truncated, VariableDropped}
 use Rattle.dt_alone.specs.declared.shown.FittingRecords.{FittingRecords}
 use Rattle.dt_alone.specs.declared.shown.Came.{Came}
 use Rattle.dt_alone.specs.declared.shown.Came.TheVariants as came
@@ -281,6 +281,14 @@ comes_few cpu (Left there in_end left) = one (there == cpu) left.bytes
     one true None = omega arith
     one true (Some bytes) = omega arith
     one false o = omega arith
+comes_few cpu (Committed there in_end part) = one (there == cpu)
+  where
+    one : (b : Bool) → length (cond b (attempt part.items in_end ∷ []) []) ≤ 1
+    one true = omega arith
+    one false = omega arith
+comes_few cpu (VariableDropped there) = omega arith
+comes_few cpu (RecordDropped there) = omega arith
+comes_few cpu DrawFailed = omega arith
 comes_few cpu (Snapped there) = one (there == cpu)
   where
     one : (b : Bool) → length (cond b (swap ∷ []) []) ≤ 1

@@ -6,6 +6,7 @@ pub mod Verdicts
 pub mod VerdictText
 -- Private to the crate: no public contract names them.
 pub mod Happened
+pub mod Kept
 pub mod Shown
 pub mod Runs
 pub mod Answered

@@ -1,5 +1,5 @@
 //! The replies to the commands, computed from all that happened.
-ghost use Rattle.std.specs.Prelude.{◌≡◌, ◌≤◌, ◌+◌, ◌-◌, ◌*◌, ◌<◌, List, Option, Ok, Some, None, IfOk, length, vec_len};
+ghost use Rattle.std.specs.Prelude.{◌≡◌, ◌≤◌, ◌+◌, ◌-◌, ◌*◌, ◌<◌, List, Option, Ok, Some, None, IfOk, length};
 ghost use Rattle.dt_cred.specs.declared.account.Account.{Account};
 ghost use Rattle.dt_machine.specs.Registry.{Registry};
 ghost use Rattle.dt_lang.specs.Program.{form_of_program};
@@ -8,21 +8,23 @@ ghost use Rattle.dt_ecb.specs.declared.limits.TheConstants.{ECBS_MAX};
 ghost use Rattle.dt_aggstore.specs.IsAt.{IsAt};
 ghost use Rattle.dt_aggstore.specs.declared.limits.TheConstants.{STORES_MAX};
 ghost use Rattle.std.specs.List.{AllZip};
-ghost use Rattle.dt_alone.specs.Runs.{Answers, Has, HasAsked};
+ghost use Rattle.dt_alone.specs.Happened.{left_count};
+ghost use Rattle.dt_alone.specs.Runs.{Answers, Has, HasAsked, all_counted};
 ghost use Rattle.dt_life.specs.Answer.{answer_of};
 ghost use Rattle.dt_life.specs.Ask.{ask_of, reading_of, description_of, agg, enable, go, snap, status, list, describe, option, stop, trunc, close};
 ghost use Rattle.dt_life.specs.Buffers.{reserve_on};
 ghost use Rattle.dt_life.specs.Life.{Item, SetUp, set_up, phase, is_inactive, is_readable};
 ghost use Rattle.dt_life.specs.Options.{setting_of};
-ghost use Rattle.dt_life.specs.Reply.{RepliesInQuota, all_aggdrops, all_errors};
+ghost use Rattle.dt_life.specs.Reply.{RepliesInQuota, all_aggdrops};
 ghost use Rattle.dt_life.specs.Stores.{stores_in};
 ghost use Rattle.dt_life.specs.declared.phase.Phase.TheVariants.{Inactive};
 ghost use Rattle.std.specs.String.{string_bytes};
 
-use crate::happened::Happened;
+use crate::happened::{Happened, StatusCount};
+use crate::kept::KeptState;
 use crate::runner::Runner;
 use crate::shown::shown_on;
-use crate::stores::{faults_on, stores_on};
+use crate::stores::{counts_on, draws_failed, stores_on};
 use dt_aggstore::AggStore;
 use dt_ecb::{ecbs_go_on, enable, one_verdict, uses_of_both};
 use dt_lang::{ParseProgram, Program, one_reading};
@@ -41,7 +43,7 @@ impl Runner {
         machine: &Machine,
         command: &Command,
     ) -> Result<Reply, AllocError>
-        requires room { vec_len self.old.since + 2 * ECBS_MAX ≤ 2 * ECBS_MAX * (self.old.lines + self.old.seen) }
+        requires room { left_count self.old.since.items + 2 * ECBS_MAX ≤ 2 * ECBS_MAX * (self.old.lines + self.old.seen) }
         ensures { IfOk result (λ reply. (account : Account) (life : List Item)
             → HasAsked account machine.now.registry self.old life
             → Answers account machine.now.registry life (ask_of command.now) reply self.new) }
@@ -149,7 +151,7 @@ impl Runner {
 
     /// Begins to trace, where there is room for END's records: BEGIN fires.
     fn go(&mut self, alloc: Global, machine: &Machine) -> Result<Reply, AllocError>
-        requires room { vec_len self.old.since + 2 * ECBS_MAX ≤ 2 * ECBS_MAX * (self.old.lines + self.old.seen) }
+        requires room { left_count self.old.since.items + 2 * ECBS_MAX ≤ 2 * ECBS_MAX * (self.old.lines + self.old.seen) }
         ensures { IfOk result (λ reply. (account : Account) (life : List Item)
             → HasAsked account machine.now.registry self.old life
             → Answers account machine.now.registry life go reply self.new) }
@@ -170,7 +172,8 @@ impl Runner {
             process: &process,
             firing: &firing,
         };
-        self.happen(alloc, machine, &context, self.seen)?;
+        let kept = KeptState::new(alloc, self.options, machine.cpus())?;
+        self.happen(alloc, machine, &context, self.seen, kept)?;
         Ok(Reply::Done)
     }
 
@@ -189,7 +192,7 @@ impl Runner {
 
     /// Ends tracing.
     fn stop(&mut self, alloc: Global, machine: &Machine) -> Result<Reply, AllocError>
-        requires room { vec_len self.old.since + 2 * ECBS_MAX ≤ 2 * ECBS_MAX * (self.old.lines + self.old.seen) }
+        requires room { left_count self.old.since.items + 2 * ECBS_MAX ≤ 2 * ECBS_MAX * (self.old.lines + self.old.seen) }
         ensures { IfOk result (λ reply. (account : Account) (life : List Item)
             → HasAsked account machine.now.registry self.old life
             → Answers account machine.now.registry life stop reply self.new) }
@@ -198,14 +201,18 @@ impl Runner {
         if !matches!(self.phase, Phase::Active) {
             return Ok(Reply::Refused(Refusal::Busy));
         }
+        // while it traces they are there
+        let Some(kept) = self.kept.take() else {
+            return Ok(Reply::Refused(Refusal::Busy));
+        };
         self.phase = Phase::Stopped(Some(End::Stop));
-        self.fire_end(alloc, machine)?;
+        self.fire_end(alloc, machine, kept)?;
         Ok(Reply::Done)
     }
 
     /// Reads the buffer of a processor.
     fn snap(&mut self, alloc: Global, machine: &Machine, cpu: u64) -> Result<Reply, AllocError>
-        requires room { vec_len self.old.since + 2 * ECBS_MAX ≤ 2 * ECBS_MAX * (self.old.lines + self.old.seen) }
+        requires room { left_count self.old.since.items + 2 * ECBS_MAX ≤ 2 * ECBS_MAX * (self.old.lines + self.old.seen) }
         ensures { IfOk result (λ reply. (account : Account) (life : List Item)
             → HasAsked account machine.now.registry self.old life
             → Answers account machine.now.registry life (snap cpu) reply self.new) }
@@ -264,7 +271,7 @@ impl Runner {
 
     /// Truncates an aggregation.
     fn truncate(&mut self, name: &[u8]) -> Result<Reply, AllocError>
-        requires room { vec_len self.old.since + 2 * ECBS_MAX ≤ 2 * ECBS_MAX * (self.old.lines + self.old.seen) }
+        requires room { left_count self.old.since.items + 2 * ECBS_MAX ≤ 2 * ECBS_MAX * (self.old.lines + self.old.seen) }
         ensures { IfOk result (λ reply. (account : Account) (registry : Registry) (life : List Item)
             → HasAsked account registry self.old life
             → Answers account registry life (trunc name.now) reply self.new) }
@@ -291,18 +298,28 @@ impl Runner {
         Ok(Reply::Status {
             phase: self.phase,
             seen: u64::from(self.seen),
-            errors: self.errors(alloc, machine)?,
+            errors: self.counts(alloc, machine, StatusCount::Failed)?,
             aggdrops: self.aggdrops(alloc, machine)?,
+            dyndrops: self.counts(alloc, machine, StatusCount::VariableDropped)?,
+            specdrops: self.counts(alloc, machine, StatusCount::RecordDropped)?,
+            specfails: draws_failed(&self.since),
         })
     }
 
-    /// How many clauses a division by zero ended on each processor.
-    fn errors(&self, alloc: Global, machine: &Machine) -> Result<Vec<u64>, AllocError>
-        ensures { IfOk result (λ errors. (account : Account) (life : List Item)
+    /// How many of them happened on each processor.
+    fn counts(
+        &self,
+        alloc: Global,
+        machine: &Machine,
+        what: StatusCount,
+    ) -> Result<Vec<u64>, AllocError>
+        ensures all { IfOk result (λ counts. (account : Account) (life : List Item)
             → Has account machine.now.registry (set_up account machine.now.registry life) self.now
-            → errors.items ≡ all_errors account machine.now.registry life) }
+            → counts.items ≡ all_counted account machine.now.registry life what) }
+        // there is a processor, to which all that isn't counted by processors is told too
+        ensures some { 1 ≤ machine.now.registry.cpus }
     {
-        faults_on(alloc, &self.since, machine.cpus())
+        counts_on(alloc, what, &self.since, machine.cpus())
     }
 
     /// How many values a store of each processor would not keep.
@@ -326,6 +343,7 @@ impl Runner {
     {
         if !matches!(self.phase, Phase::Stopped(_)) {
             self.phase = Phase::Stopped(None);
+            self.kept = None;
         }
         Reply::Done
     }

@@ -17,16 +17,50 @@ use std::alloc::{AllocError, Global};
 #[derive(Drop)]
 pub(crate) enum Happened {
     /// A division by zero ended a clause on a processor.
-    Failed { cpu: u32 },
+    Failed {
+        cpu: u32,
+    },
     /// A clause left something on a processor; `in_end` says that it was taken as END fired.
-    Left { cpu: u32, in_end: bool, left: Left },
+    Left {
+        cpu: u32,
+        in_end: bool,
+        left: Left,
+    },
+    /// A part of a speculation was committed into the buffer of a processor.
+    Committed {
+        cpu: u32,
+        in_end: bool,
+        part: Vec<u8>,
+    },
+    /// An assignment to a thread-local variable found no room, on a processor.
+    VariableDropped {
+        cpu: u32,
+    },
+    /// A speculation dropped a record, on a processor.
+    RecordDropped {
+        cpu: u32,
+    },
+    /// A draw found all identifiers in use.
+    DrawFailed,
     /// A `snap` of a processor's buffer was answered.
-    Snapped { cpu: u32 },
+    Snapped {
+        cpu: u32,
+    },
     /// An aggregation was truncated.
-    Truncated { aggregation: Aggregation },
+    Truncated {
+        aggregation: Aggregation,
+    },
 }
 
-/// What a clause left: the bytes of its record, where it makes one, and what it gave to aggregations, in order.
+/// What `status` counts on each processor.
+#[derive(Clone, Copy)]
+pub(crate) enum StatusCount {
+    Failed,
+    VariableDropped,
+    RecordDropped,
+}
+
+/// What a clause left: the bytes of the record that it attempts to put into its processor's buffer, where it attempts one, and what it gave to aggregations, in order.
 #[derive(Drop)]
 pub(crate) struct Left {
     pub(crate) bytes: Option<Vec<u8>>,
@@ -83,35 +117,55 @@ impl Contribution {
 }
 
 impl Happened {
-    ghost use Rattle.std.specs.Prelude.{◌≡◌, ◌+◌, ◌<◌, ◌^◌, ℕ, length, slice_index, if◌then◌else◌};
+    ghost use Rattle.std.specs.Prelude.{◌≡◌, ◌+◌, ◌<◌, ◌^◌, ◌==◌, ℕ, true, false, MatchOption, length, slice_index, if◌then◌else◌};
     ghost use Rattle.dt_aggstore.specs.History.{Past};
     ghost use Rattle.dt_aggstore.specs.IsAt.{IsAt, added_of};
     ghost use Rattle.dt_aggstore.specs.declared.limits.TheConstants.{ADDED_LIMIT};
-    ghost use Rattle.dt_alone.specs.Happened.{gives_to, is_fault_on};
+    ghost use Rattle.dt_alone.specs.Happened.{gives_to, is_counted_on, is_draw_failed, is_left};
     ghost use Rattle.dt_life.specs.Uses.{given_then};
 
-    /// Counts it for its processor, where it is a division by zero.
-    pub(crate) fn count_fault(&self, faults: &mut [u64])
-        requires { (cpu : ℕ) → cpu < length faults.old → slice_index faults.old cpu + 1 < 2 ^ 64 }
-        ensures counts { (cpu : ℕ) → cpu < length faults.old → slice_index faults.new cpu
-            ≡ slice_index faults.old cpu + (if is_fault_on cpu self.now then 1 else 0) }
-        ensures len { length faults.new ≡ length faults.old }
+    /// On which processor it is one of those that are counted, if it is.
+    fn counted_at(&self, what: StatusCount) -> Option<u32>
+        ensures { MatchOption result ((cpu : ℕ) → is_counted_on what cpu self.now ≡ false)
+            (λ there. (cpu : ℕ) → is_counted_on what cpu self.now ≡ (there == cpu)) }
     {
-        if let Happened::Failed { cpu } = self {
-            let cpu = *cpu as usize;
-            if cpu < faults.len() {
-                faults[cpu] += 1;
+        match (what, self) {
+            (StatusCount::Failed, Happened::Failed { cpu })
+            | (StatusCount::VariableDropped, Happened::VariableDropped { cpu })
+            | (StatusCount::RecordDropped, Happened::RecordDropped { cpu }) => Some(*cpu),
+            _ => None,
+        }
+    }
+
+    /// Whether it is a draw that failed.
+    pub(crate) fn is_draw_failed(&self) -> bool
+        ensures { result ≡ is_draw_failed self.now }
+    {
+        matches!(self, Happened::DrawFailed)
+    }
+
+    /// Counts it for its processor, where it is one of those that are counted.
+    pub(crate) fn count(&self, what: StatusCount, counts: &mut [u64])
+        requires { (cpu : ℕ) → cpu < length counts.old → slice_index counts.old cpu + 1 < 2 ^ 64 }
+        ensures counts { (cpu : ℕ) → cpu < length counts.old → slice_index counts.new cpu
+            ≡ slice_index counts.old cpu + (if is_counted_on what cpu self.now then 1 else 0) }
+        ensures len { length counts.new ≡ length counts.old }
+    {
+        if let Some(cpu) = self.counted_at(what) {
+            let cpu = cpu as usize;
+            if cpu < counts.len() {
+                counts[cpu] += 1;
             }
         }
     }
 
     /// Gives what it gives to the store of each processor.
     pub(crate) fn give(&self, stores: &mut [AggStore])
-        requires { All (GivenAtMost (ADDED_LIMIT - STATEMENTS_MAX)) stores.old }
+        requires { is_left self.now ≡ true → All (GivenAtMost (ADDED_LIMIT - STATEMENTS_MAX)) stores.old }
         ensures stands { (pasts : ℕ → Past) → AreGiven pasts stores.old
             → AreGiven (λ cpu. given_then (pasts cpu) (gives_to cpu self.now)) stores.new }
         ensures counts { (n : ℕ) → All (GivenAtMost n) stores.old
-            → All (GivenAtMost (n + STATEMENTS_MAX)) stores.new }
+            → All (GivenAtMost (n + (if is_left self.now then STATEMENTS_MAX else 0))) stores.new }
         ensures len { length stores.new ≡ length stores.old }
     {
         match self {

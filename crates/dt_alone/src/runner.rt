@@ -1,10 +1,16 @@
 //! The plain runner of one life: it has all that happened in it.
-ghost use Rattle.std.specs.Prelude.{◌≡◌, ◌≤◌, ◌<◌, ◌+◌, ◌*◌, None, Some, if◌then◌else◌, vec_len};
+ghost use Rattle.std.specs.Prelude.{◌≡◌, ◌≤◌, ◌<◌, ◌+◌, ◌-◌, ◌*◌, None, Some, if◌then◌else◌};
+ghost use Rattle.std.specs.Option.{ForSome};
 ghost use Rattle.dt_life.specs.declared.limits.TheConstants.{HISTORY_MAX, LINES_MAX};
 ghost use Rattle.dt_life.specs.declared.phase.Phase.TheVariants as phases;
 ghost use Rattle.dt_ecb.specs.declared.limits.TheConstants.{ECBS_MAX};
+ghost use Rattle.dt_program.specs.declared.clause.TheConstants.{STATEMENTS_MAX};
+ghost use Rattle.dt_locals.specs.declared.limits.TheConstants.{LOCAL_DROPS_LIMIT};
+ghost use Rattle.dt_alone.specs.Happened.{left_count};
+ghost use Rattle.dt_alone.specs.Kept.{DropsAtMost};
 
 use crate::happened::Happened;
+use crate::kept::KeptState;
 use crate::programs::Programs;
 use dt_cred::Account;
 use dt_life::{
@@ -14,7 +20,7 @@ use dt_machine::{Context, Firing, Machine};
 use std::alloc::{AllocError, Global};
 
 /// What a plain runner has of a life: its options and programs, how many lines were asked and how many firings were
-/// seen, how far it has come, and all that happened in it, the oldest first.
+/// seen, how far it has come, and all that happened in it, the oldest first; and while it traces the variables and the speculations.
 #[derive(Drop)]
 pub(crate) struct Runner {
     pub(crate) account: Account,
@@ -24,11 +30,13 @@ pub(crate) struct Runner {
     pub(crate) seen: u32,
     pub(crate) phase: Phase,
     pub(crate) since: Vec<Happened>,
+    pub(crate) kept: Option<KeptState>,
     ghost few_lines: { lines ≤ LINES_MAX },
     ghost few_seen: { seen ≤ HISTORY_MAX },
     ghost unseen: { phase ≡ phases.Inactive → seen ≡ 0 },
     ghost going: { phase ≡ phases.Active → seen < options.histsize },
-    ghost few: { vec_len since ≤ 2 * ECBS_MAX * (lines + seen) },
+    ghost few: { left_count since.items ≤ 2 * ECBS_MAX * (lines + seen) },
+    ghost few_drops: { ForSome kept (DropsAtMost (2 * ECBS_MAX * STATEMENTS_MAX * (lines + seen))) },
 }
 
 impl Runner {
@@ -36,11 +44,11 @@ impl Runner {
     ghost use Rattle.dt_cred.specs.declared.account.Account.{Account};
     ghost use Rattle.dt_machine.specs.Registry.{Registry};
     ghost use Rattle.dt_machine.specs.Context.{form_of_context};
-    ghost use Rattle.dt_alone.specs.Runs.{Has, HasIn, IsFiring, Runs};
+    ghost use Rattle.dt_alone.specs.Runs.{Has, HasIn, IsFiring, KeepsAfter, Runs};
     ghost use Rattle.dt_life.specs.Answer.{answer_of};
     ghost use Rattle.dt_life.specs.Ask.{line_asks};
     ghost use Rattle.dt_life.specs.Acceptance.{after_line};
-    ghost use Rattle.dt_life.specs.Life.{Item, SetUp, fired, happens, phase_after, seen_count, with_event, is_over as over};
+    ghost use Rattle.dt_life.specs.Life.{Item, SetUp, fired, happens, phase_after, phase_of, seen_count, with_event, is_over as over};
     ghost use Rattle.dt_life.specs.Reply.{Replies};
     ghost use Rattle.dt_life.specs.Sees.{Sees};
     ghost use Rattle.dt_life.specs.Takings.{TracingEvent, ended, context_at};
@@ -58,6 +66,7 @@ impl Runner {
             seen: 0,
             phase: Phase::Inactive,
             since: Vec::new(alloc),
+            kept: None,
         }
     }
 
@@ -122,25 +131,36 @@ impl Runner {
         let Some(context) = shown(&account, machine, firing) else {
             return Ok(false);
         };
-        self.happen(alloc, machine, &context, self.seen + 1)?;
+        // while it traces, the variables and the speculations of each of the machine's processors are there
+        let Some(kept) = self.kept.take() else {
+            return Ok(false);
+        };
+        if firing.cpu >= kept.cpus {
+            return Ok(false);
+        }
+        self.happen(alloc, machine, &context, self.seen + 1, kept)?;
         Ok(true)
     }
 
     /// A probe other than END fires, and then so many firings were seen. Where a clause exits, or the firing is the
-    /// last of the history, tracing ends, and END fires too.
+    /// last of the history, tracing ends, and END fires too. The variables and the speculations are kept where tracing goes on.
     pub(crate) fn happen(
         &mut self,
         alloc: Global,
         machine: &Machine,
         context: &Context,
         seen: u32,
+        mut kept: KeptState,
     ) -> Result<(), AllocError>
+        requires there { context.now.firing.now.cpu < kept.cpus }
         requires in_history { seen ≤ self.old.options.histsize }
-        requires room { vec_len self.old.since + 2 * ECBS_MAX ≤ 2 * ECBS_MAX * (self.old.lines + seen) }
+        requires room { left_count self.old.since.items + 2 * ECBS_MAX ≤ 2 * ECBS_MAX * (self.old.lines + seen) }
+        requires drops { DropsAtMost (2 * ECBS_MAX * STATEMENTS_MAX * (self.old.lines + seen) - 2 * ECBS_MAX * STATEMENTS_MAX) kept }
         requires forward { self.old.seen ≤ seen }
         // for each set-up that it has: it then has the one with this firing, and END's where tracing ends
         ensures happens { IfOk result (λ _. (account : Account) (s : SetUp) (event : TracingEvent)
-            → Has account machine.now.registry s self.old → IsFiring event
+            → HasIn account machine.now.registry s (phase_of s) self.old → KeepsAfter account machine.now.registry s kept
+            → IsFiring event
             → context_at account machine.now.registry event ≡ Some (form_of_context context.now)
             → phase_after (event ∷ s.since) ≡ phases.Active → seen ≡ seen_count (event ∷ s.since)
             → Has account machine.now.registry (happens account machine.now.registry s event) self.new) }
@@ -148,32 +168,45 @@ impl Runner {
     {
         let history = self.options.histsize;
         self.seen = seen;
+        self.kept = None;
         // for now, until the exit is known: a phase that fits the count of seen firings
         self.phase = if seen < history {
             Phase::Active
         } else {
             Phase::Stopped(Some(End::History))
         };
-        let exit = self.programs.take(alloc, &mut self.since, context, false)?;
+        let exit = self
+            .programs
+            .take(alloc, &mut self.since, &mut kept, context, false)?;
         let end = End::after(exit, seen, history);
         self.phase = match end {
             Some(end) => Phase::Stopped(Some(end)),
             None => Phase::Active,
         };
         if end.is_some() {
-            self.fire_end(alloc, machine)?;
+            self.fire_end(alloc, machine, kept)?;
+        } else {
+            self.kept = Some(kept);
         }
         Ok(())
     }
 
     /// END fires, after the phase tells that tracing has ended.
-    pub(crate) fn fire_end(&mut self, alloc: Global, machine: &Machine) -> Result<(), AllocError>
-        requires room { vec_len self.old.since + ECBS_MAX ≤ 2 * ECBS_MAX * (self.old.lines + self.old.seen) }
+    pub(crate) fn fire_end(
+        &mut self,
+        alloc: Global,
+        machine: &Machine,
+        mut kept: KeptState,
+    ) -> Result<(), AllocError>
+        requires room { left_count self.old.since.items + ECBS_MAX ≤ 2 * ECBS_MAX * (self.old.lines + self.old.seen) }
+        requires drops { DropsAtMost (LOCAL_DROPS_LIMIT - ECBS_MAX * STATEMENTS_MAX) kept }
         ensures ends { IfOk result (λ _. (account : Account) (s : SetUp) (end : End)
             → HasIn account machine.now.registry s (phases.Stopped (Some end)) self.old
+            → KeepsAfter account machine.now.registry s kept
             → Has account machine.now.registry (with_event s (ended end)) self.new) }
         ensures lines { self.new.lines ≡ self.old.lines }
     {
+        self.kept = None;
         let process = own_process(&self.account);
         let firing = own_firing(END);
         let context = Context {
@@ -181,7 +214,9 @@ impl Runner {
             process: &process,
             firing: &firing,
         };
-        let _exit = self.programs.take(alloc, &mut self.since, &context, true)?;
+        let _exit = self
+            .programs
+            .take(alloc, &mut self.since, &mut kept, &context, true)?;
         Ok(())
     }
 }

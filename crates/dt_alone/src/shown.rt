@@ -53,6 +53,10 @@ impl Happened {
                 },
                 None => Came::Nothing,
             },
+            Happened::Committed { cpu, in_end, part } if *cpu == on => Came::Put {
+                bytes: part,
+                in_end: *in_end,
+            },
             Happened::Snapped { cpu } if *cpu == on => Came::Snapped,
             _ => Came::Nothing,
         }

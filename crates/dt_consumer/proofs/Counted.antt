@@ -7,35 +7,49 @@ use Rattle.std.proofs.lemmas.Bool.{eqb-false}
 use Rattle.dt_aggstore.specs.declared.limits.TheConstants.{ADDED_LIMIT}
 use Rattle.dt_aggstore.specs.declared.store.AggStore.{AggStore}
 use Rattle.dt_buffer.specs.declared.limits.TheConstants.{DROPS_LIMIT}
-use Rattle.dt_ecb.specs.declared.limits.TheConstants.{ECBS_MAX}
-use Rattle.dt_consumer.specs.Counts.{AtMost, GIVES_MAX, must_be_left, own_firings}
+use Rattle.dt_consumer.specs.Counts.{AtMost, COMES_MAX, FailsAtMost, GIVES_MAX, must_be_left, own_firings}
 use Rattle.dt_life.specs.Uses.{GivenAtMost}
 use Rattle.dt_life.specs.declared.limits.TheConstants.{HISTORY_MAX}
 use Rattle.dt_consumer.specs.declared.course.Course.{Course}
 use Rattle.dt_consumer.specs.declared.course.Course.TheVariants.{Running}
 use Rattle.dt_life.specs.declared.phase.End.TheVariants.{Exit, History}
 use Rattle.dt_consumer.specs.declared.processor.Processor.{Processor}
-
-pub no_more : (n m : ℕ) (all : List Processor) → n ≤ m → All (AtMost n) all → All (AtMost m) all
-no_more n m all few h = λ k d inside. let at = h k d inside in (omega (arith, at.0), omega (arith, at.1))
+use Rattle.dt_consumer.specs.declared.processors.Processors.{Processors}
+use Rattle.dt_consumer.proofs.Tallying.{at_most_more}
 
 -- what is counted while tracing goes on
 pub counted_on : (seen : ℕ) (ended : Course) (all : List Processor) → ended ≡ Running
-    → All (AtMost (ECBS_MAX * (seen + own_firings ended))) all → All (AtMost (ECBS_MAX * (seen + 1))) all
-counted_on seen ended all e h = subst (λ x. All (AtMost (ECBS_MAX * (seen + own_firings x))) all) e h
+    → All (AtMost (COMES_MAX * (seen + own_firings ended))) all → All (AtMost (COMES_MAX * (seen + 1))) all
+counted_on seen ended all e h = subst (λ x. All (AtMost (COMES_MAX * (seen + own_firings x))) all) e h
 
 pub left_on : (seen history : ℕ) (ended : Course) → ended ≡ Running → seen + must_be_left ended ≤ history
     → seen + 1 ≤ history
 left_on seen history ended e h = subst (λ x. seen + must_be_left x ≤ history) e h
 
 -- one firing more
-pub one_more : (seen : ℕ) (all : List Processor) → All (AtMost (ECBS_MAX * (seen + 1) + ECBS_MAX)) all
-    → All (AtMost (ECBS_MAX * (seen + 2))) all
-one_more seen all h = no_more _ (ECBS_MAX * (seen + 2)) all (omega arith) h
+pub one_more : (seen : ℕ) (all : List Processor) → All (AtMost (COMES_MAX * (seen + 1) + COMES_MAX)) all
+    → All (AtMost (COMES_MAX * (seen + 2))) all
+one_more seen all h = at_most_more _ (COMES_MAX * (seen + 2)) all (omega arith) h
 
 pub below_limit : (seen history : ℕ) (all : List Processor) → seen + 1 ≤ history → history ≤ HISTORY_MAX
-    → All (AtMost (ECBS_MAX * (seen + 2))) all → All (AtMost (DROPS_LIMIT - ECBS_MAX)) all
-below_limit seen history all left few h = no_more _ (DROPS_LIMIT - ECBS_MAX) all (omega arith) h
+    → All (AtMost (COMES_MAX * (seen + 2))) all → All (AtMost (DROPS_LIMIT - COMES_MAX)) all
+below_limit seen history all left few h = at_most_more _ (DROPS_LIMIT - COMES_MAX) all (omega arith) h
+
+-- the same of the variables and the speculations
+pub fails_more : (n m : ℕ) (processors : Processors) → n ≤ m → FailsAtMost n processors → FailsAtMost m processors
+fails_more n m processors few h = (omega (arith, h.0), omega (arith, h.1))
+
+pub failed_on : (seen : ℕ) (ended : Course) (processors : Processors) → ended ≡ Running
+    → FailsAtMost (COMES_MAX * (seen + own_firings ended)) processors → FailsAtMost (COMES_MAX * (seen + 1)) processors
+failed_on seen ended processors e h = subst (λ x. FailsAtMost (COMES_MAX * (seen + own_firings x)) processors) e h
+
+pub failed_more : (seen : ℕ) (processors : Processors) → FailsAtMost (COMES_MAX * (seen + 1) + COMES_MAX) processors
+    → FailsAtMost (COMES_MAX * (seen + 2)) processors
+failed_more seen processors h = fails_more _ (COMES_MAX * (seen + 2)) processors (omega arith) h
+
+pub failed_below : (seen history : ℕ) (processors : Processors) → seen + 1 ≤ history → history ≤ HISTORY_MAX
+    → FailsAtMost (COMES_MAX * (seen + 2)) processors → FailsAtMost (DROPS_LIMIT - COMES_MAX) processors
+failed_below seen history processors left few h = fails_more _ (DROPS_LIMIT - COMES_MAX) processors (omega arith) h
 
 none_second : (exit : Option ℤ) (b : Bool) → None ≡ option_or (option_map Exit exit) (cond b (Some History) None)
     → b ≡ false

@@ -1,5 +1,5 @@
 -- What a consumer's clauses give to its aggregations.
-use Rattle.std.proofs.Common.{◌≡◌, ℕ, zero, suc, ◌+◌, ◌<◌, ◌≤◌, get_or, take, drop, Bool, List, [], ◌∷◌, ◌++◌}
+use Rattle.std.proofs.Common.{◌≡◌, ℕ, zero, suc, ◌+◌, ◌<◌, ◌≤◌, get_or, take, drop, List, [], ◌∷◌, ◌++◌}
 use Rattle.std.proofs.Common.{length, map, sym, ap, ◌∙◌, subst, arith}
 use Rattle.std.specs.Option.{option_map_or}
 use Rattle.std.proofs.lemmas.List.{take_all, take_more, map-append, length-map}
@@ -7,15 +7,13 @@ use Rattle.dt_aggstore.specs.History as store
 use Rattle.dt_aggstore.specs.IsAt.{IsAt}
 use Rattle.dt_aggstore.specs.declared.store.AggStore.{AggStore}
 use Rattle.dt_ecb.specs.Shapes.{ShapeForm}
-use Rattle.dt_ecb.specs.declared.parts.Ecb.{Ecb}
 use Rattle.dt_expr.specs.declared.text.Value.{Value}
 use Rattle.dt_lang.specs.Program.{ClauseForm, form_of_clause}
 use Rattle.dt_program.specs.declared.clause.Clause.{Clause}
-use Rattle.dt_record.specs.Taking.{Outcome, TakenForm, leaves, left_in, taking}
+use Rattle.dt_ecb.specs.Forms.{no_clause}
+use Rattle.dt_record.specs.Taking.{Outcome, TakenForm, leaves, left_in}
 use Rattle.dt_life.specs.Aggregations.{contributions_of}
-use Rattle.dt_life.specs.Takings.{Taking, scene_at, taking_of}
-use Rattle.dt_machine.specs.Context.{ContextForm}
-use Rattle.dt_life.specs.Following.{taking_by}
+use Rattle.dt_life.specs.Takings.{Taking}
 use Rattle.dt_consumer.specs.Uses.{AreUses, form_of_use, form_of_uses}
 use Rattle.dt_life.specs.Uses.{given_then}
 use Rattle.dt_life.specs.Aggregations.{contribution_at, split_by, uses_by}
@@ -85,23 +83,26 @@ uses_long shapes clauses uses are =
     ∙ length-map (map form_of_clause clauses) (λ (c : ClauseForm). uses_by shapes c.statements)
     ∙ length-map clauses form_of_clause
 
-module _ (shapes : List ShapeForm) (in_end : Bool) (m : ContextForm) (clauses : List Clause) (ecb : Ecb)
-    (clause : Clause) (inside : ecb.clause < length clauses) (at : clause ≡ get_or clauses ecb.clause clause) where
-  abbrev taking_with : ClauseForm → Taking
-  taking_with c = taking_of in_end m (record { epid = ecb.epid; probe = ecb.probe; clause = c })
+-- the clause that an ECB is taken with
+pub clause_is : (clauses : List Clause) (forms : List ClauseForm) (place : ℕ) (clause : Clause)
+    → map form_of_clause clauses ≡ forms → place < length clauses → clause ≡ get_or clauses place clause
+    → form_of_clause clause ≡ get_or forms place no_clause
+clause_is clauses forms place clause own inside at =
+    sym (clause_found clauses place clause inside at) ∙ ap (λ cs. get_or cs place no_clause) own
 
-  -- a clause that left something gave its values
-  pub gave_left : (uses : List Uses) (u : Uses) (form : TakenForm) (past : store.Past) (st : AggStore)
-      → taking ecb.epid (scene_at m ecb.epid) (form_of_clause clause) ≡ leaves form
-      → AreUses shapes (map form_of_clause clauses) uses → u ≡ get_or uses ecb.clause u
-      → IsAt (given_then past (split_by (form_of_uses u) form.values)) st
-      → IsAt (given_then past (contributions_of shapes (taking_by in_end m (map form_of_clause clauses) ecb))) st
-  gave_left uses u form past st comes are found h =
-      same_at _ _ st
-      (ap (given_then past)
-      (ap (λ us. split_by us form.values) (uses_found shapes clauses uses ecb.clause clause u inside at found are)
-      ∙ sym (ap (λ (o : Outcome). option_map_or
-      (λ (f : TakenForm). split_by (uses_by shapes (form_of_clause clause).statements) f.values) (left_in o) []) comes)
-      ∙ sym (ap (λ (c : ClauseForm). contributions_of shapes (taking_with c))
-      (clause_found clauses ecb.clause clause inside at))))
-      h
+-- a clause that left something gave its values
+pub gave_left : (shapes : List ShapeForm) (clauses : List Clause) (forms : List ClauseForm) (uses : List Uses) (place : ℕ)
+    (clause : Clause) (u : Uses) (t : Taking) (form : TakenForm) (past : store.Past) (st : AggStore)
+    → map form_of_clause clauses ≡ forms → place < length clauses → clause ≡ get_or clauses place clause
+    → u ≡ get_or uses place u → AreUses shapes forms uses → t.ecb.clause ≡ get_or forms place no_clause
+    → t.taken.outcome ≡ leaves form
+    → IsAt (given_then past (split_by (form_of_uses u) form.values)) st
+    → IsAt (given_then past (contributions_of shapes t)) st
+gave_left shapes clauses forms uses place clause u t form past st own inside at found are its comes h =
+    same_at _ _ st
+    (ap (λ us. given_then past (split_by us form.values))
+    (uses_found shapes clauses uses place clause u inside at found (subst (λ cs. AreUses shapes cs uses) (sym own) are)
+    ∙ ap (λ (c : ClauseForm). uses_by shapes c.statements) (clause_is clauses forms place clause own inside at ∙ sym its))
+    ∙ ap (λ (o : Outcome). given_then past (option_map_or
+    (λ (f : TakenForm). split_by (uses_by shapes t.ecb.clause.statements) f.values) (left_in o) [])) (sym comes))
+    h

@@ -1,17 +1,19 @@
 -- The lemmas of the crate, lowest first.
 
-pub mod Buffers
+pub mod Tallying
+pub mod Parting
+pub mod Counted
+pub mod Leaving
+pub mod Turning
 pub mod Listing
 pub mod Giving
-pub mod Taken
 pub mod Tracings
-pub mod Stores
 pub mod Snapping
-pub mod Counted
 pub mod Stands
 pub mod Seeing
 pub mod DraftLemmas
 pub mod Interests
+pub mod Idle
 pub mod Telling
 pub mod StoresTold
 pub mod Quiet

@@ -11,13 +11,12 @@ use Rattle.dt_buffer.specs.Shows.{ShownBy, Shows}
 use Rattle.dt_buffer.specs.declared.policy.Policy.{Policy}
 use Rattle.dt_buffer.specs.declared.policy.Policy.TheVariants.{Switch, Fill, Ring}
 use Rattle.dt_cred.specs.declared.account.Account.{Account}
-use Rattle.dt_ecb.specs.Ecbs.{EcbForm}
 use Rattle.dt_machine.specs.Registry.{Registry}
-use Rattle.dt_life.specs.Buffers.{comes_by, comes_since, past_in}
+use Rattle.dt_life.specs.Buffers.{comes_by_steps, past_in}
 use Rattle.dt_consumer.specs.Keeps.{is_quiet}
-use Rattle.dt_life.specs.Life.{SetUp, ecbs_in}
-use Rattle.dt_life.specs.Takings.{TracingEvent, began, seen, snapped, truncated, ended, closed}
-use Rattle.dt_life.specs.laws.TracingSteps.{after_close, after_snap, after_trunc}
+use Rattle.dt_life.specs.Life.{SetUp, tracing_steps}
+use Rattle.dt_life.specs.TracingSteps.{TracingStep, takes, reads, truncates}
+use Rattle.dt_consumer.proofs.Idle.{AreIdle, quiet_steps}
 
 abbrev are_swaps : List buffer.BufferEvent → Type 0
 are_swaps = AllByRecursion (λ event. event ≡ swap)
@@ -26,25 +25,15 @@ append_swaps : (a b : List buffer.BufferEvent) → are_swaps a → are_swaps b �
 append_swaps [] b h k = k
 append_swaps (x ∷ a) b h k = (h.0, append_swaps a b h.1 k)
 
-quiet_swaps : (account : Account) (registry : Registry) (ecbs : List EcbForm) (cpu : ℕ) (events : List TracingEvent)
-    → is_quiet events ≡ true → are_swaps (comes_since account registry ecbs cpu events)
-quiet_swaps account registry ecbs cpu [] e = tt
-quiet_swaps account registry ecbs cpu (began ∷ events) e = cc
-quiet_swaps account registry ecbs cpu (seen firing ∷ events) e = cc
-quiet_swaps account registry ecbs cpu (snapped n ∷ events) e =
-    subst are_swaps (sym (after_snap (comes_by cpu) account registry ecbs events n))
-    (append_swaps _ _ (quiet_swaps account registry ecbs cpu events e) (here (n == cpu)))
+quiet_swaps : (cpu : ℕ) (steps : List TracingStep) → AreIdle steps → are_swaps (comes_by_steps cpu steps)
+quiet_swaps cpu [] h = tt
+quiet_swaps cpu (takes t ∷ steps) h = absurd h.0
+quiet_swaps cpu (reads n ∷ steps) h = append_swaps (cond (n == cpu) (swap ∷ []) []) _ (here (n == cpu)) (quiet_swaps cpu steps h.1)
   where
     here : (b : Bool) → are_swaps (cond b (swap ∷ []) [])
     here true = (refl, tt)
     here false = tt
-quiet_swaps account registry ecbs cpu (truncated name ∷ events) e =
-    subst are_swaps (sym (after_trunc (comes_by cpu) account registry ecbs events name))
-    (append_swaps _ [] (quiet_swaps account registry ecbs cpu events e) tt)
-quiet_swaps account registry ecbs cpu (ended end ∷ events) e = cc
-quiet_swaps account registry ecbs cpu (closed ∷ events) e =
-    subst are_swaps (sym (after_close (comes_by cpu) account registry ecbs events))
-    (quiet_swaps account registry ecbs cpu events e)
+quiet_swaps cpu (truncates name ∷ steps) h = quiet_swaps cpu steps h.1
 
 -- by swaps alone no record comes
 record NoneCame (events : List buffer.BufferEvent) : Type 0 where
@@ -106,4 +95,4 @@ pub nothing_shown : (account : Account) (registry : Registry) (s : SetUp) (cpu :
 nothing_shown account registry s cpu quiet =
     let past = past_in account registry s cpu in
     nothing_by past past.policy
-    (none_came past.events (quiet_swaps account registry (ecbs_in account registry s) cpu s.since quiet))
+    (none_came past.events (quiet_swaps cpu (tracing_steps account registry s) (quiet_steps account registry s quiet)))

@@ -1,6 +1,6 @@
 -- What `agg` and `status` tell of the stores.
 use Rattle.std.proofs.Common.{◌≡◌, ℕ, Bool, true, false, List, [], ◌∷◌, ◌++◌, length, Option, Some, None, map}
-use Rattle.std.proofs.Common.{replicate, refl, sym, ap, ◌∙◌, subst, arith}
+use Rattle.std.proofs.Common.{append_assoc, replicate, refl, sym, ap, ◌∙◌, arith}
 use Rattle.std.specs.List.{AllByRecursion, AllZip, flat_map, range_with_len}
 use Rattle.std.specs.Option.{option_map, option_to_list}
 use Rattle.std.specs.Vec.{vec_len}
@@ -14,19 +14,18 @@ use Rattle.dt_aggstore.specs.History as store
 use Rattle.dt_aggstore.specs.IsAt.{IsAt}
 use Rattle.dt_aggstore.specs.declared.key.Aggregation.{Aggregation}
 use Rattle.dt_cred.specs.declared.account.Account.{Account}
-use Rattle.dt_ecb.specs.Ecbs.{EcbForm}
 use Rattle.dt_ecb.specs.Shapes.{ShapeForm}
 use Rattle.dt_machine.specs.Registry.{Registry}
 use Rattle.dt_life.specs.Aggregations.{aggregation_of}
 use Rattle.dt_consumer.specs.Keeps.{IsTracing, is_quiet}
-use Rattle.dt_life.specs.Life.{Item, SetUp, ecbs_in, set_up, shapes_in}
+use Rattle.dt_life.specs.Life.{Item, SetUp, set_up, shapes_in, tracing_steps}
 use Rattle.dt_life.specs.Reply.{all_aggdrops}
-use Rattle.dt_life.specs.Stores.{aggdrops_in, given_in, given_on, given_since, stores_in}
-use Rattle.dt_life.specs.Takings.{TracingEvent, began, seen, snapped, truncated, ended, closed}
+use Rattle.dt_life.specs.Stores.{aggdrops_in, given_by_steps, given_in, stores_in}
+use Rattle.dt_life.specs.TracingSteps.{TracingStep, takes, reads, truncates}
 use Rattle.dt_consumer.specs.declared.tracing.Tracing.{Tracing}
 use Rattle.dt_life.specs.laws.Stores.{are_zipped}
 use Rattle.dt_life.specs.laws.Lists.{all_zero}
-use Rattle.dt_life.specs.laws.TracingSteps.{after_close, after_snap, after_trunc}
+use Rattle.dt_consumer.proofs.Idle.{AreIdle, quiet_steps}
 
 -- as many stores as processors
 all_stores : (account : Account) (registry : Registry) (s : SetUp) (t : Tracing) → IsTracing account registry s t
@@ -42,7 +41,7 @@ pub stores_told : (account : Account) (registry : Registry) (s : SetUp) (t : Tra
     → AllZip IsAt (stores_in account registry s) t.processors.stores.items
 stores_told account registry s t is =
     are_zipped (given_in account registry s) t.processors.stores.items registry.cpus
-    (all_stores account registry s t is) is.stores
+    (all_stores account registry s t is) is.processors.stores
 
 pub aggdrops_told : (account : Account) (registry : Registry) (life : List Item) (t : Tracing)
     → IsTracing account registry (set_up account registry life) t
@@ -61,27 +60,19 @@ module _ (fresh : (size : ℕ) → drops (store.new_past size) ≡ 0)
   one_cut size events None = ap (λ es. drops (record { size = size; events = es })) (append-nil events)
   one_cut size events (Some a) = cut (record { size = size; events = events }) a
 
-  none_given : (account : Account) (registry : Registry) (shapes : List ShapeForm) (ecbs : List EcbForm) (cpu size : ℕ)
-      (events : List TracingEvent) → is_quiet events ≡ true
-      → drops (record { size = size; events = given_since account registry shapes ecbs cpu events }) ≡ 0
-  none_given account registry shapes ecbs cpu size [] e = fresh size
-  none_given account registry shapes ecbs cpu size (began ∷ events) e = cc
-  none_given account registry shapes ecbs cpu size (seen firing ∷ events) e = cc
-  none_given account registry shapes ecbs cpu size (snapped n ∷ events) e =
+  none_given : (shapes : List ShapeForm) (cpu size : ℕ) (steps : List TracingStep) (before : List store.Event)
+      → AreIdle steps → drops (record { size = size; events = before }) ≡ 0
+      → drops (record { size = size; events = before ++ given_by_steps shapes cpu steps }) ≡ 0
+  none_given shapes cpu size [] before h e = ap (λ es. drops (record { size = size; events = es })) (append-nil before) ∙ e
+  none_given shapes cpu size (takes t ∷ steps) before h e = absurd h.0
+  none_given shapes cpu size (reads n ∷ steps) before h e = none_given shapes cpu size steps before h.1 e
+  none_given shapes cpu size (truncates name ∷ steps) before h e =
       ap (λ es. drops (record { size = size; events = es }))
-      (after_snap (given_on shapes cpu) account registry ecbs events n
-      ∙ append-nil (given_since account registry shapes ecbs cpu events))
-      ∙ none_given account registry shapes ecbs cpu size events e
-  none_given account registry shapes ecbs cpu size (truncated name ∷ events) e =
-      ap (λ es. drops (record { size = size; events = es }))
-      (after_trunc (given_on shapes cpu) account registry ecbs events name)
-      ∙ one_cut size (given_since account registry shapes ecbs cpu events) (aggregation_of shapes name)
-      ∙ none_given account registry shapes ecbs cpu size events e
-  none_given account registry shapes ecbs cpu size (ended end ∷ events) e = cc
-  none_given account registry shapes ecbs cpu size (closed ∷ events) e =
-      ap (λ es. drops (record { size = size; events = es }))
-      (after_close (given_on shapes cpu) account registry ecbs events)
-      ∙ none_given account registry shapes ecbs cpu size events e
+      (sym (append_assoc before (option_to_list (option_map store.truncated (aggregation_of shapes name)))
+      (given_by_steps shapes cpu steps)))
+      ∙ none_given shapes cpu size steps
+      (before ++ option_to_list (option_map store.truncated (aggregation_of shapes name))) h.1
+      (one_cut size before (aggregation_of shapes name) ∙ e)
 
   pub no_aggdrops : (account : Account) (registry : Registry) (life : List Item)
       → is_quiet (set_up account registry life).since ≡ true
@@ -89,8 +80,8 @@ module _ (fresh : (size : ℕ) → drops (store.new_past size) ≡ 0)
   no_aggdrops account registry life quiet =
       let s = set_up account registry life in
       sym (all_zero (aggdrops_in account registry s) registry.cpus 0
-      (λ cpu. none_given account registry (shapes_in s) (ecbs_in account registry s) cpu s.options.aggsize
-      s.since quiet))
+      (λ cpu. none_given (shapes_in s) cpu s.options.aggsize (tracing_steps account registry s) []
+      (quiet_steps account registry s quiet) (fresh s.options.aggsize)))
 
 -- nothing is held where nothing was given
 abbrev gives_none : List store.Event → Type 0
@@ -110,25 +101,18 @@ append_none : (a b : List store.Event) → gives_none a → gives_none b → giv
 append_none [] b h k = k
 append_none (x ∷ a) b h k = (h.0, append_none a b h.1 k)
 
-module _ (account : Account) (registry : Registry) (shapes : List ShapeForm) (ecbs : List EcbForm) (cpu : ℕ) where
-  quiet_gives : (events : List TracingEvent) → is_quiet events ≡ true
-      → gives_none (given_since account registry shapes ecbs cpu events)
-  quiet_gives [] e = tt
-  quiet_gives (began ∷ events) e = cc
-  quiet_gives (seen firing ∷ events) e = cc
-  quiet_gives (snapped n ∷ events) e =
-      subst gives_none (sym (after_snap (given_on shapes cpu) account registry ecbs events n))
-      (append_none _ [] (quiet_gives events e) tt)
-  quiet_gives (truncated name ∷ events) e =
-      subst gives_none (sym (after_trunc (given_on shapes cpu) account registry ecbs events name))
-      (append_none _ _ (quiet_gives events e) (cut (aggregation_of shapes name)))
-    where
-      cut : (o : Option Aggregation) → gives_none (option_to_list (option_map store.truncated o))
-      cut None = tt
-      cut (Some a) = (refl, tt)
-  quiet_gives (ended end ∷ events) e = cc
-  quiet_gives (closed ∷ events) e =
-      subst gives_none (sym (after_close (given_on shapes cpu) account registry ecbs events)) (quiet_gives events e)
+quiet_gives : (shapes : List ShapeForm) (cpu : ℕ) (steps : List TracingStep) → AreIdle steps
+    → gives_none (given_by_steps shapes cpu steps)
+quiet_gives shapes cpu [] h = tt
+quiet_gives shapes cpu (takes t ∷ steps) h = absurd h.0
+quiet_gives shapes cpu (reads n ∷ steps) h = quiet_gives shapes cpu steps h.1
+quiet_gives shapes cpu (truncates name ∷ steps) h =
+    append_none (option_to_list (option_map store.truncated (aggregation_of shapes name))) _
+    (cut (aggregation_of shapes name)) (quiet_gives shapes cpu steps h.1)
+  where
+    cut : (o : Option Aggregation) → gives_none (option_to_list (option_map store.truncated o))
+    cut None = tt
+    cut (Some a) = (refl, tt)
 
 -- the table of stores to which nothing was given
 all_held : (f : ℕ → store.Past) (cpus : List ℕ) → ((cpu : ℕ) → gives_none (f cpu).events)
@@ -150,4 +134,4 @@ empty_table account registry s a quiet =
       value = answer_of_bag a.function (joined_bag a key pasts (map choice_of pasts));
     }) (rising_keys a es))
     (all_held (given_in account registry s) (range_with_len 0 registry.cpus)
-    (λ cpu. quiet_gives account registry (shapes_in s) (ecbs_in account registry s) cpu s.since quiet)))
+    (λ cpu. quiet_gives (shapes_in s) cpu (tracing_steps account registry s) (quiet_steps account registry s quiet))))

@@ -5,57 +5,40 @@ use Rattle.std.specs.List.{slice_get, All}
 use Rattle.std.proofs.lemmas.List.Elements.{All-filter, All-get_or, All-map}
 use Rattle.std.proofs.lemmas.Option.{slice_get-get_or}
 use Rattle.std.specs.Option.{IfSome, IsSomeAnd}
-use Rattle.dt_buffer.specs.History.{new_buffer_past}
+use Rattle.dt_buffer.specs.History.{of_end}
 use Rattle.dt_cred.specs.declared.account.Account.{Account}
 use Rattle.dt_machine.specs.Registry.{Registry}
-use Rattle.dt_lang.specs.Program.{ClauseForm, form_of_clause}
-use Rattle.dt_program.specs.declared.clause.Clause.{Clause}
+use Rattle.dt_lang.specs.Program.{ClauseForm}
 use Rattle.dt_ecb.specs.Ecbs.{EcbForm, of_probe}
 use Rattle.dt_ecb.specs.Forms.{form_of_ecb}
 use Rattle.dt_ecb.specs.declared.parts.Ecb.{Ecb}
-use Rattle.dt_life.specs.Buffers.{errors_in, past_in, reserve_on}
+use Rattle.dt_life.specs.Buffers.{past_in, reserve_on}
 use Rattle.dt_life.specs.Placed.{AreEcbs, placed_after}
-use Rattle.dt_consumer.specs.Keeps.{AreTaken, HasTaken, IsTracing}
-use Rattle.dt_life.specs.Following.{errors_and, pasts_and, taking_by, where_taken}
-use Rattle.dt_life.specs.Life.{SetUp, ecbs_in, end_size, since_then, with_event}
+use Rattle.dt_life.specs.Following.{takings_by}
+use Rattle.dt_life.specs.Life.{SetUp, ecbs_in, end_size, since_then, tracing_steps, with_event}
 use Rattle.dt_life.specs.Options.{OptionsForm, is_fill}
-use Rattle.dt_life.specs.Takings.{TracingEvent, ended, is_end, Taking, first_exit, context_at}
+use Rattle.dt_life.specs.Takings.{TracingEvent, ended, is_end, first_exit, context_at, own_context}
+use Rattle.dt_life.specs.TracingSteps.{TracingStep, steps_and, taken_at, taken_by, takings_of}
 use Rattle.dt_machine.specs.Context.{ContextForm}
-use Rattle.dt_life.specs.Takings.{own_context, taken_at, taken_by, taking_of}
 use Rattle.dt_life.specs.declared.limits.TheConstants.{END}
 use Rattle.dt_life.specs.declared.phase.End.{End}
+use Rattle.dt_consumer.specs.Keeps.{AreAfter, IsTracing, tally_after}
 use Rattle.dt_consumer.specs.Placing.{ArePlaced, IsPlaced}
-use Rattle.dt_consumer.specs.declared.processor.Processor.{Processor}
+use Rattle.dt_consumer.specs.Tallies.{new_tally}
 use Rattle.dt_consumer.specs.declared.ecb_lists.EcbList.{EcbList}
+use Rattle.dt_consumer.specs.declared.processors.Processors.{Processors}
 use Rattle.dt_consumer.specs.declared.tracing.Tracing.{Tracing}
-use Rattle.dt_consumer.proofs.Buffers.{same_has}
-use Rattle.dt_life.specs.laws.Lists.{filter-map, found_at, map_twice}
-use Rattle.dt_life.specs.laws.Takings.{first_through}
+use Rattle.dt_life.specs.laws.Lists.{filter-map, found_at}
 use Rattle.dt_life.specs.laws.Options.{if_some_map}
-use Rattle.dt_life.specs.laws.Tracings.{IsFiring, by_is, comes_more, errors_more, past_with}
+use Rattle.dt_life.specs.laws.Tracings.{IsFiring, by_is, steps_more, still_open}
 use Rattle.dt_life.specs.laws.Contexts.{own_found}
 
-module _ (account : Account) (registry : Registry) (s : SetUp) where
-  abbrev own : List EcbForm
-  own = ecbs_in account registry s
-
-  module _ (event : TracingEvent) (m : ContextForm) (fires : IsFiring event)
-      (at : context_at account registry event ≡ Some m) where
-    -- what was taken at an event is what the set-up with it says
-    pub grown : (all : List Processor) (new : List Taking)
-        → new ≡ taken_at (is_end event) (ecbs_in account registry s) m
-        → AreTaken (pasts_and (past_in account registry s) (where_taken m.firing.cpu new))
-        (errors_and (errors_in account registry s) (where_taken m.firing.cpu new)) all
-        → AreTaken (past_in account registry (with_event s event))
-        (errors_in account registry (with_event s event)) all
-    grown all new is h = λ cpu.
-        if_some_map _ _ (slice_get all cpu)
-        (λ p. same_has _ _ _ _ p
-        (ap (λ xs. pasts_and (past_in account registry s) (where_taken m.firing.cpu xs) cpu) is
-        ∙ ap (past_with account registry s cpu) (sym (comes_more account registry s event m fires at cpu)))
-        (ap (λ xs. errors_and (errors_in account registry s) (where_taken m.firing.cpu xs) cpu) is
-        ∙ sym (errors_more account registry s event m fires at cpu)))
-        (h cpu)
+-- what happens changes no clause and no option, by which processors are after steps
+pub since_moved : (account : Account) (registry : Registry) (s : SetUp) (events : List TracingEvent) (steps : List TracingStep)
+    (processors : Processors) → AreAfter account registry s steps processors
+    → AreAfter account registry (since_then s events) steps processors
+since_moved account registry s events steps processors h =
+    record { each = h.each; stores = h.stores; locals = h.locals; specs = h.specs }
 
 -- the list of a probe has the forms of its ECBs
 abbrev pub ListOf : Account → Registry → SetUp → ℕ → EcbList → Type 0
@@ -68,45 +51,55 @@ list_at account registry s lists probe list each inside at =
     found_at (ListOf account registry s probe) lists probe list inside at (each probe)
 
 -- what is taken of a list is what is taken of the probe's ECBs
-pub list_taken : (account : Account) (registry : Registry) (s : SetUp) (probe : ℕ) (list : EcbList)
-    → ListOf account registry s probe list → (clauses : List Clause) → map form_of_clause clauses ≡ s.clauses
-    → (in_end : Bool) (m : ContextForm) → map (taking_by in_end m (map form_of_clause clauses)) list.ecbs.items
-    ≡ map (taking_of in_end m) (of_probe probe (ecbs_in account registry s))
-list_taken account registry s probe list its clauses own in_end m =
-    sym (map_twice (form_of_ecb (map form_of_clause clauses)) (taking_of in_end m) list.ecbs.items)
-    ∙ ap (λ cs. map (taking_of in_end m) (map (form_of_ecb cs) list.ecbs.items)) own
-    ∙ ap (map (taking_of in_end m)) its.forms
+list_taken : (account : Account) (registry : Registry) (s : SetUp) (probe : ℕ) (list : EcbList)
+    → ListOf account registry s probe list → (in_end : Bool) (steps : List TracingStep) (m : ContextForm)
+    → takings_by in_end s.options steps m s.clauses list.ecbs.items
+    ≡ takings_of s.options steps in_end m (of_probe probe (ecbs_in account registry s))
+list_taken account registry s probe list its in_end steps m = ap (takings_of s.options steps in_end m) its.forms
 
 -- END fired on what had been taken
-pub end_fired : (account : Account) (registry : Registry) (s : SetUp) (end : End) (list : EcbList) (all : List Processor)
-    (clauses : List Clause) → map form_of_clause clauses ≡ s.clauses → ListOf account registry s END list
+pub end_fired : (account : Account) (registry : Registry) (s : SetUp) (end : End) (list : EcbList) (new : Processors)
+    → ListOf account registry s END list
     → IsSomeAnd (own_context account registry END) (λ m.
-    let new = map (taking_by true m (map form_of_clause clauses)) list.ecbs.items in
-    AreTaken (pasts_and (past_in account registry s) (where_taken 0 new))
-    (errors_and (errors_in account registry s) (where_taken 0 new)) all)
-    → AreTaken (past_in account registry (with_event s (ended end)))
-    (errors_in account registry (with_event s (ended end))) all
-end_fired account registry s end list all clauses own_clauses its h =
+    AreAfter account registry s (steps_and (tracing_steps account registry s)
+    (takings_by true s.options (tracing_steps account registry s) m s.clauses list.ecbs.items)) new)
+    → AreAfter account registry (with_event s (ended end)) (tracing_steps account registry (with_event s (ended end))) new
+end_fired account registry s end list new its h =
     let found = own_found account registry END _ h in
-    grown account registry s (ended end) _ tt found.is all _
-    (list_taken account registry s END list its clauses own_clauses true _)
-    found.holds
+    let steps = tracing_steps account registry s in
+    since_moved account registry s (ended end ∷ s.since) _ new
+    (subst (λ xs. AreAfter account registry s xs new)
+    (ap (steps_and steps) (list_taken account registry s END list its true steps _)
+    ∙ sym (steps_more account registry s (ended end) _ found.is tt))
+    found.holds)
 
--- the first exit of a list is that of what is taken
-pub exit_is : (account : Account) (registry : Registry) (s : SetUp) (list : EcbList) (clauses : List Clause)
-    (event : TracingEvent) (m : ContextForm) (exit : Option ℤ) → IsFiring event → context_at account registry event
-    ≡ Some m
-    → is_end event ≡ false
-    → map (taking_by false m (map form_of_clause clauses)) list.ecbs.items
-    ≡ map (taking_of false m) (of_probe m.firing.probe (ecbs_in account registry s))
-    → exit ≡ first_exit (map (taking_by false m (map form_of_clause clauses)) list.ecbs.items)
-    → first_exit (taken_by account registry (ecbs_in account registry s) event) ≡ exit
-exit_is account registry s list clauses event m exit fires at ordinary same e =
-    let es = ecbs_in account registry s in
-    ap first_exit (by_is account registry s event m fires at)
-    ∙ ap (λ b. first_exit (taken_at b es m)) ordinary
-    ∙ first_through (map (taking_of false m) (of_probe m.firing.probe es))
-    ∙ sym (e ∙ ap first_exit same)
+-- what a firing made of the processors, and the status that it exited with
+pub record Fired (account : Account) (registry : Registry) (s : SetUp) (event : TracingEvent) (new : Processors)
+    (exit : Option ℤ) : Type 0 where
+  pub after : AreAfter account registry (with_event s event) (tracing_steps account registry (with_event s event)) new
+  pub exited : first_exit (taken_by account registry s.options (ecbs_in account registry s) (tracing_steps account registry s) event)
+      ≡ exit
+  pub still : (cpu : ℕ) → of_end (past_in account registry (with_event s event) cpu).events ≡ []
+
+pub fired_at : (account : Account) (registry : Registry) (s : SetUp) (event : TracingEvent) (m : ContextForm)
+    (list : EcbList) (new : Processors) (exit : Option ℤ) → IsFiring event → context_at account registry event ≡ Some m
+    → is_end event ≡ false → ListOf account registry s m.firing.probe list
+    → ((cpu : ℕ) → of_end (past_in account registry s cpu).events ≡ [])
+    → AreAfter account registry s (steps_and (tracing_steps account registry s)
+    (takings_by false s.options (tracing_steps account registry s) m s.clauses list.ecbs.items)) new
+    → exit ≡ first_exit (takings_by false s.options (tracing_steps account registry s) m s.clauses list.ecbs.items)
+    → Fired account registry s event new exit
+fired_at account registry s event m list new exit fires at ordinary its none took left =
+    let steps = tracing_steps account registry s in
+    let same = list_taken account registry s m.firing.probe list its false steps m
+    ∙ ap (λ b. taken_at s.options steps b m (ecbs_in account registry s)) (sym ordinary) in
+    record {
+      after = since_moved account registry s (event ∷ s.since) _ new
+          (subst (λ xs. AreAfter account registry s xs new)
+          (ap (steps_and steps) same ∙ sym (steps_more account registry s event m at fires)) took);
+      exited = ap first_exit (by_is account registry s event m at ∙ sym same) ∙ sym left;
+      still = still_open account registry s event m fires at ordinary none;
+    }
 
 -- the same set-up, written in another way
 pub becomes : (account : Account) (registry : Registry) (s s' : SetUp) (t : Tracing) → s' ≡ s
@@ -120,20 +113,14 @@ reserved true false size reserve e = refl
 reserved false true size reserve e = e
 reserved false false size reserve e = refl
 
--- new processors are those of a set-up to which nothing has happened
-pub new_taken : (account : Account) (registry : Registry) (s : SetUp) (options : OptionsForm) (reserve : ℕ)
-    (all : List Processor) → options ≡ s.options → reserve ≡ reserve_on account registry s 0
-    → ((cpu : ℕ) → IfSome (slice_get all cpu)
-    (HasTaken (new_buffer_past options.bufpolicy options.bufsize (cond (cpu == 0) reserve 0)) 0))
-    → AreTaken (past_in account registry (since_then s [])) (errors_in account registry (since_then s [])) all
-new_taken account registry s options reserve all same room h = λ cpu.
-    if_some_map _ _ (slice_get all cpu)
-    (λ p. same_has _ _ _ _ p
-    (ap (λ (o : OptionsForm). new_buffer_past o.bufpolicy o.bufsize (cond (cpu == 0) reserve 0)) same
-    ∙ ap (new_buffer_past s.options.bufpolicy s.options.bufsize)
-    (reserved (is_fill s.options.bufpolicy) (cpu == 0) (end_size account registry s) reserve room))
-    refl)
-    (h cpu)
+-- new processors are before the first step
+pub new_tallied : (account : Account) (registry : Registry) (s : SetUp) (options : OptionsForm) (reserve : ℕ)
+    → options ≡ s.options → reserve ≡ reserve_on account registry s 0 → (cpu : ℕ)
+    → new_tally options.bufpolicy options.bufsize (cond (cpu == 0) reserve 0) ≡ tally_after account registry s [] cpu
+new_tallied account registry s options reserve same room cpu =
+    ap (λ (o : OptionsForm). new_tally o.bufpolicy o.bufsize (cond (cpu == 0) reserve 0)) same
+    ∙ ap (new_tally s.options.bufpolicy s.options.bufsize)
+    (reserved (is_fill s.options.bufpolicy) (cpu == 0) (end_size account registry s) reserve room)
 
 -- the ECBs of a probe are among those that are kept
 of_list : (clauses : List ClauseForm) (probe : ℕ) (wanted : List EcbForm) (ecbs : List Ecb)

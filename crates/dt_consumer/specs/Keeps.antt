@@ -1,37 +1,49 @@
 -- How a consumer keeps its set-up, and what happened on each processor: what `StandsFor` is made of.
 use Rattle.std.specs.Prelude.{◌≡◌, ℕ, ◌+◌, Bool, true, false, List, [], ◌∷◌, None, IfSome, if◌then◌else◌, MatchOption}
 use Rattle.std.specs.Prelude.{length, map, slice_get}
-use Rattle.dt_buffer.specs.History.{BufferPast, of_end}
-use Rattle.dt_buffer.specs.IsAt.{BufferIsAt}
+use Rattle.dt_buffer.specs.History.{of_end}
 use Rattle.dt_cred.specs.declared.account.Account.{Account}
+use Rattle.dt_locals.specs.LocalsAreAt.{LocalsAreAt}
 use Rattle.dt_machine.specs.Registry.{Registry}
+use Rattle.dt_speculation.specs.IsAt.{SpecsAt}
+use Rattle.dt_speculation.specs.Parts.{spec_drops}
 use Rattle.dt_lang.specs.Program.{form_of_clause}
 use Rattle.dt_ecb.specs.Ecbs.{of_probe}
 use Rattle.dt_ecb.specs.Forms.{shapes_of}
-use Rattle.dt_life.specs.Buffers.{errors_in, past_in}
-use Rattle.dt_life.specs.Life.{SetUp, ecbs_in, phase_of, seen_count, shapes_in}
-use Rattle.dt_life.specs.Stores.{given_in}
+use Rattle.dt_life.specs.Buffers.{errors_after, buffer_past_after, past_in}
+use Rattle.dt_life.specs.Life.{SetUp, ecbs_in, phase_of, seen_count, shapes_in, tracing_steps}
+use Rattle.dt_life.specs.Stores.{given_after}
 use Rattle.dt_life.specs.Takings.{TracingEvent, snapped, truncated, closed}
+use Rattle.dt_life.specs.TracingSteps.{TracingStep, dynamic_drops, locals_of, specs_of}
 use Rattle.dt_life.specs.Uses.{AreGiven}
+use Rattle.dt_consumer.specs.Tallies.{Tally, AreTallied}
 use Rattle.dt_consumer.specs.Uses.{AreUses}
 use Rattle.dt_consumer.specs.declared.consumer.Consumer.{Consumer}
 use Rattle.dt_consumer.specs.declared.course.Course.{Course}
 use Rattle.dt_consumer.specs.declared.course.Course.TheVariants.{Running, Over}
 use Rattle.dt_life.specs.declared.phase.Phase.{Phase}
 use Rattle.dt_life.specs.declared.phase.Phase.TheVariants.{Inactive, Active, Stopped}
-use Rattle.dt_consumer.specs.declared.processor.Processor.{Processor}
+use Rattle.dt_consumer.specs.declared.processors.Processors.{Processors}
 use Rattle.dt_consumer.specs.declared.tracing.Tracing.{Tracing}
 use Rattle.dt_life.specs.Forms.{form_of_options}
 use Rattle.dt_life.specs.Placed.{AreEcbs}
 
--- What was taken on a processor: its buffer is at the end of this past, and so many errors are counted.
-pub record HasTaken (past : BufferPast) (errors : ℕ) (processor : Processor) : Type 0 where
-  pub stands : BufferIsAt past processor.buffer
-  pub counted : processor.errors ≡ errors
+module _ (account : Account) (registry : Registry) (s : SetUp) (steps : List TracingStep) where
+  -- what came to a processor by steps
+  abbrev pub tally_after : (cpu : ℕ) → Tally
+  tally_after cpu = record {
+    came = buffer_past_after account registry s steps cpu;
+    errors = errors_after steps cpu;
+    dyndrops = dynamic_drops s.options steps cpu;
+    specdrops = spec_drops (specs_of s.options steps) cpu;
+  }
 
--- Each processor has taken what leads to its past, and counts its errors.
-abbrev pub AreTaken : (ℕ → BufferPast) → (ℕ → ℕ) → List Processor → Type 0
-AreTaken pasts errors all = (cpu : ℕ) → IfSome (slice_get all cpu) (HasTaken (pasts cpu) (errors cpu))
+  -- All processors are after steps, and so are their stores, the variables and the speculations.
+  pub record AreAfter (processors : Processors) : Type 0 where
+    pub each : AreTallied tally_after processors.all.items
+    pub stores : AreGiven (given_after s steps) processors.stores.items
+    pub locals : LocalsAreAt (locals_of s.options steps) processors.locals
+    pub specs : SpecsAt (specs_of s.options steps) processors.specs
 
 -- the phase of a consumer that traces or has traced
 abbrev pub phase_by : Course → Phase
@@ -56,10 +68,9 @@ module _ (account : Account) (registry : Registry) (s : SetUp) where
     pub lists : (probe : ℕ) → IfSome (slice_get tracing.lists.items probe)
         (λ list. AreEcbs s.clauses (of_probe probe (ecbs_in account registry s)) list.ecbs.items)
     pub all_lists : length tracing.lists.items ≡ length registry.probes + 1
-    pub processors : AreTaken (past_in account registry s) (errors_in account registry s) tracing.processors.all.items
+    pub processors : AreAfter account registry s (tracing_steps account registry s) tracing.processors
     pub all_processors : length tracing.processors.all.items ≡ registry.cpus
     pub uses : AreUses (shapes_in s) s.clauses tracing.uses.items
-    pub stores : AreGiven (given_in account registry s) tracing.processors.stores.items
     pub history : tracing.history ≡ s.options.histsize
     pub seen : tracing.seen ≡ seen_count s.since
     pub standing : phase_of s ≡ phase_by tracing.course

@@ -2,6 +2,7 @@
 
 -- What is promised.
 pub mod Uses
+pub mod Tallies
 pub mod Placing
 pub mod Keeps
 pub mod StandsFor
@@ -9,5 +10,6 @@ pub mod Draft
 -- Private to the crate: no public contract names them.
 pub mod Counts
 pub mod Recording
+pub mod Enabling
 -- The laws of these.
 pub mod laws

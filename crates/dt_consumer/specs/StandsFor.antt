@@ -8,14 +8,15 @@
 -- longer with each line. So a consumer keeps the answers to what a reply or a firing asks of the life: the options,
 -- the accepted clauses, their ECBs and the aggregations that they use for `enable` and `agg`, the count of lines for
 -- the quota, and, from `go` on, the rows of ECBs by probe for firings, what each clause gives to aggregations, the number
--- of seen firings, whether and why tracing ended, and each processor's buffer, errors and store of aggregations.
+-- of seen firings, whether and why tracing ended, each processor's buffer, errors, drops and store of aggregations, the
+-- thread-local variables, and the speculations.
 --
 -- How the proof goes. `draft` reads a consumer that stands for a life and proves `IsDraftOf`: its reply is the
 -- definition's, and its change is the one that the line makes. `apply` makes that change, and `offer` takes a seen
 -- firing. A line that has no effect leaves the set-up as it is, so the consumer keeps it with nothing to show; each
 -- other proof shows the one part that changes: an `option` sets one, an `enable` adds a program, a `go` begins tracing,
--- a `snap` swaps a buffer, a `trunc` truncates each store, a firing adds takings and contributions to one processor,
--- and where tracing ends, END adds some to the first.
+-- a `snap` swaps a buffer, a `trunc` truncates each store, a firing adds takings, each after what the one before it made
+-- of everything, and where tracing ends, so does END.
 use Rattle.std.specs.Prelude.{◌≡◌, false, List}
 use Rattle.dt_cred.specs.declared.account.Account.{Account}
 use Rattle.dt_machine.specs.Registry.{Registry}

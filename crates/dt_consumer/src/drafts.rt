@@ -13,16 +13,17 @@ ghost use Rattle.dt_ecb.specs.Forms.{form_of_ecb, shapes_of};
 ghost use Rattle.dt_ecb.specs.declared.limits.TheConstants.{ECBS_MAX};
 ghost use Rattle.dt_life.specs.Answer.{answer_of};
 ghost use Rattle.dt_life.specs.Ask.{ask_of, line_asks, reading_of, description_of, agg, enable, go, snap, status, list, describe, option, stop, trunc, close};
-ghost use Rattle.dt_life.specs.Buffers.{errors, past};
 ghost use Rattle.dt_life.specs.Options.{setting_of};
-ghost use Rattle.dt_consumer.specs.Keeps.{HasTaken, is_quiet};
+ghost use Rattle.dt_consumer.specs.Keeps.{is_quiet, tally_after};
+ghost use Rattle.dt_consumer.specs.Tallies.{IsTallied};
 ghost use Rattle.dt_life.specs.declared.phase.Phase.TheVariants.{Inactive};
 ghost use Rattle.std.specs.String.{string_bytes};
 ghost use Rattle.std.specs.Option.{option_copied};
 ghost use Rattle.dt_consumer.specs.Draft.{CanApply, IsDraftOf};
-ghost use Rattle.dt_life.specs.Life.{Item, set_up, phase, next_epid, is_inactive, is_readable};
+ghost use Rattle.dt_life.specs.Life.{Item, set_up, phase, next_epid, is_inactive, is_readable, tracing_steps};
 ghost use Rattle.dt_life.specs.Refusal.{IsNoCommand};
-ghost use Rattle.dt_life.specs.Reply.{Accepted, all_aggdrops, all_errors, seen_firings};
+ghost use Rattle.dt_life.specs.Reply.{Accepted, all_aggdrops, all_dyndrops, all_errors, all_specdrops, seen_firings};
+ghost use Rattle.dt_life.specs.Variables.{specfails_in};
 ghost use Rattle.dt_life.specs.Stores.{stores_in};
 ghost use Rattle.dt_consumer.specs.StandsFor.{StandsFor, MayAsk};
 ghost use Rattle.dt_life.specs.declared.reply.Reply.{Reply};
@@ -316,7 +317,8 @@ impl Consumer {
         ensures { (account : Account) (registry : Registry) (life : List Item)
             → StandsFor account registry self.now life → cpu < registry.cpus
             → MatchOption (option_copied result) (is_quiet (set_up account registry life).since ≡ true)
-            (HasTaken (past account registry life cpu) (errors account registry life cpu)) }
+            (IsTallied (tally_after account registry (set_up account registry life)
+            (tracing_steps account registry (set_up account registry life)) cpu)) }
     {
         self.tracing.as_ref()?.processors.all.get(cpu as usize)
     }
@@ -393,6 +395,9 @@ impl Consumer {
             seen: self.seen(),
             errors: self.errors(alloc, machine)?,
             aggdrops: self.aggdrops(alloc, machine)?,
+            dyndrops: self.dyndrops(alloc, machine)?,
+            specdrops: self.specdrops(alloc, machine)?,
+            specfails: self.specfails(),
         };
         Ok(Draft {
             reply,
@@ -435,6 +440,42 @@ impl Consumer {
                 drops_go_on();
                 Ok(vec![in alloc; 0; machine.cpus() as usize]?)
             }
+        }
+    }
+
+    /// How many assignments to variables found no room on each processor, since tracing began: none before that.
+    fn dyndrops(&self, alloc: Global, machine: &Machine) -> Result<Vec<u64>, AllocError>
+        ensures { IfOk result (λ dyndrops. (account : Account) (life : List Item)
+            → MayAsk account machine.now.registry self.now life
+            → dyndrops.items ≡ all_dyndrops account machine.now.registry life) }
+    {
+        match &self.tracing {
+            Some(tracing) => tracing.dyndrops(alloc),
+            None => Ok(vec![in alloc; 0; machine.cpus() as usize]?),
+        }
+    }
+
+    /// How many records speculations dropped on each processor, since tracing began: none before that.
+    fn specdrops(&self, alloc: Global, machine: &Machine) -> Result<Vec<u64>, AllocError>
+        ensures { IfOk result (λ specdrops. (account : Account) (life : List Item)
+            → MayAsk account machine.now.registry self.now life
+            → specdrops.items ≡ all_specdrops account machine.now.registry life) }
+    {
+        match &self.tracing {
+            Some(tracing) => tracing.specdrops(alloc),
+            None => Ok(vec![in alloc; 0; machine.cpus() as usize]?),
+        }
+    }
+
+    /// How many draws found all identifiers in use.
+    fn specfails(&self) -> u64
+        ensures { (account : Account) (registry : Registry) (life : List Item)
+            → StandsFor account registry self.now life
+            → result ≡ specfails_in account registry (set_up account registry life) }
+    {
+        match &self.tracing {
+            Some(tracing) => tracing.processors.specs.fails(),
+            None => 0,
         }
     }
 

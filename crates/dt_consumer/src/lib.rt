@@ -6,6 +6,7 @@
 //! defined in `dt_life`. `Draft::publishes` says whether tracing begins by the line.
 #![tactic(auto)]
 
+mod committing;
 mod consumer;
 mod course;
 mod draft;

@@ -1,50 +1,67 @@
 //! What a consumer has of its processors from its `go` on.
 ghost use Rattle.std.specs.Prelude.{◌≡◌, ◌≤◌, vec_len};
 ghost use Rattle.dt_aggstore.specs.declared.limits.TheConstants.{STORES_MAX};
+ghost use Rattle.dt_speculation.specs.IsAt.{cpus_of};
 
+use crate::committing::end_speculations;
 use crate::ecb_lists::EcbList;
 use crate::enabled::Enabled;
 use crate::processor::Processor;
 use dt_aggstore::{AggStore, Aggregation};
 use dt_cred::Account;
-use dt_life::{Context, END, Options, empty_stores, own_firing, own_process};
+use dt_ecb::Ecb;
+use dt_expr::EvalFault;
+use dt_life::{Context, END, Options, empty_stores, own_firing, own_process, scene_at};
+use dt_locals::Locals;
 use dt_machine::Machine;
 use dt_record::Taken;
+use dt_speculation::{SpecPut, Specs, drops_told};
 use std::alloc::{AllocError, Global};
 
-/// What a consumer has of its processors from its `go` on, each with its store of aggregations, and the place in which what a
-/// clause leaves is made.
+/// What a consumer has of its processors from its `go` on, each with its store of aggregations; its thread-local variables and its
+/// speculations, which are those of all processors; and the place in which what a clause leaves is made.
 #[derive(Drop)]
 pub(crate) struct Processors {
     pub(crate) all: Vec<Processor>,
     pub(crate) stores: Vec<AggStore>,
+    pub(crate) locals: Locals,
+    pub(crate) specs: Specs,
     left: Taken,
     ghost some: { 1 ≤ vec_len all },
     ghost each: { vec_len stores ≡ vec_len all },
     ghost few: { vec_len stores ≤ STORES_MAX },
+    ghost parts: { cpus_of specs ≡ vec_len all },
 }
 
 impl Processors {
-    ghost use Rattle.std.specs.Prelude.{◌≡◌, ◌+◌, ◌-◌, ◌<◌, ◌==◌, ℕ, true, false, List, All, IfOk, IfSome, IsSomeAnd, length, map, slice_get, vec_len, if◌then◌else◌};
+    ghost use Rattle.std.specs.Prelude.{◌≡◌, ◌+◌, ◌-◌, ◌<◌, ◌==◌, ℕ, true, false, List, [], ◌∷◌, ◌++◌, All, IfOk, IfSome, IsSomeAnd, length, map, slice_get, vec_len, if◌then◌else◌};
     ghost use Rattle.dt_aggstore.specs.Chosen.{drops};
     ghost use Rattle.dt_aggstore.specs.History as stores;
-    ghost use Rattle.std.specs.List.{range_with_len};
     ghost use Rattle.dt_aggstore.specs.declared.limits.TheConstants.{ADDED_LIMIT};
-    ghost use Rattle.dt_ecb.specs.Shapes.{ShapeForm};
-    ghost use Rattle.dt_buffer.specs.History.{BufferPast, new_buffer_past};
+    ghost use Rattle.std.specs.List.{range_with_len};
+    ghost use Rattle.dt_buffer.specs.History.{of_end};
     ghost use Rattle.dt_buffer.specs.Shows.{EndLast};
     ghost use Rattle.dt_buffer.specs.declared.limits.TheConstants.{DROPS_LIMIT};
-    ghost use Rattle.dt_ecb.specs.declared.limits.TheConstants.{ECBS_MAX};
-    ghost use Rattle.dt_lang.specs.Program.{form_of_clause};
-    ghost use Rattle.dt_consumer.specs.Counts.{AtMost, GIVES_MAX};
-    ghost use Rattle.dt_life.specs.Uses.{GivenAtMost};
-    ghost use Rattle.dt_life.specs.Uses.{AreGiven, given_and};
-    ghost use Rattle.dt_consumer.specs.Uses.{AreUses};
-    ghost use Rattle.dt_machine.specs.Context.{form_of_context};
-    ghost use Rattle.dt_consumer.specs.Keeps.{AreTaken, HasTaken};
-    ghost use Rattle.dt_life.specs.Following.{errors_and, pasts_and, taking_by, where_taken};
-    ghost use Rattle.dt_life.specs.Takings.{first_exit, own_context, through_exit};
+    ghost use Rattle.dt_consumer.specs.Counts.{AtMost, COMES_BY_ONE, COMES_MAX, FailsAtMost, GIVES_MAX};
+    ghost use Rattle.dt_consumer.specs.Enabling.{IsEnabledBy};
+    ghost use Rattle.dt_consumer.specs.Keeps.{AreAfter};
+    ghost use Rattle.dt_consumer.specs.Tallies.{AreTallied, Tally, changed_at, new_tally, with_left, with_records};
+    ghost use Rattle.dt_life.specs.Takings.{puts_in};
+    ghost use Rattle.dt_cred.specs.declared.account.Account.{Account};
+    ghost use Rattle.dt_life.specs.Buffers.{comes_by_steps, reserve_on};
+    ghost use Rattle.dt_life.specs.Following.{taking_by, takings_by};
+    ghost use Rattle.dt_life.specs.Forms.{form_of_options};
+    ghost use Rattle.dt_life.specs.Life.{SetUp};
+    ghost use Rattle.dt_life.specs.Takings.{exit_of, first_exit, freed_by, own_context, parts_out};
+    ghost use Rattle.dt_life.specs.TracingSteps.{TracingStep, steps_and, takes};
+    ghost use Rattle.dt_life.specs.Uses.{AreGiven, GivenAtMost};
     ghost use Rattle.dt_life.specs.declared.limits.TheConstants.{END};
+    ghost use Rattle.dt_machine.specs.Context.{form_of_context};
+    ghost use Rattle.dt_machine.specs.Registry.{Registry};
+    ghost use Rattle.dt_program.specs.declared.clause.TheConstants.{STATEMENTS_MAX};
+    ghost use Rattle.dt_record.specs.Forms.{form_of_taken};
+    ghost use Rattle.dt_speculation.specs.History.{SpecPast, specs_then};
+    ghost use Rattle.dt_speculation.specs.IsAt.{SpecsAt, fails_of};
 
     /// As many processors as these, on which nothing was taken. The first has the reserve.
     pub(crate) fn new(
@@ -57,16 +74,19 @@ impl Processors {
         requires some { 1 ≤ cpus }
         requires few { cpus ≤ STORES_MAX }
         ensures len { IfOk result (λ processors. vec_len processors.all ≡ cpus) }
-        ensures empty { IfOk result (λ processors. (cpu : ℕ) → IfSome (slice_get processors.all.items cpu)
-            (HasTaken (new_buffer_past options.bufpolicy options.bufsize (if cpu == 0 then reserve else 0)) 0)) }
+        // for each set-up with these options: they are before its first step
+        ensures after { IfOk result (λ processors. (account : Account) (registry : Registry) (s : SetUp)
+            → form_of_options options ≡ s.options → reserve ≡ reserve_on account registry s 0
+            → AreAfter account registry s [] processors) }
         ensures counts { IfOk result (λ processors. All (AtMost 0) processors.all.items) }
-        ensures fresh { IfOk result (λ processors.
-            AreGiven (λ cpu. stores.new_past options.aggsize) processors.stores.items) }
+        ensures fails { IfOk result (FailsAtMost 0) }
         ensures gives { IfOk result (λ processors. All (GivenAtMost 0) processors.stores.items) }
     {
         Ok(Processors {
             all: Processors::fresh(alloc, options, reserve, cpus)?,
             stores: empty_stores(alloc, options.aggsize, cpus)?,
+            locals: Locals::new(alloc, options.dynvarsize)?,
+            specs: Specs::new(alloc, options.nspec, options.specsize, cpus as usize)?,
             left: Taken::new(),
         })
     }
@@ -80,8 +100,8 @@ impl Processors {
     ) -> Result<Vec<Processor>, AllocError>
         requires { reserve ≤ options.bufsize }
         ensures len { IfOk result (λ all. vec_len all ≡ cpus) }
-        ensures empty { IfOk result (λ all. (cpu : ℕ) → IfSome (slice_get all.items cpu)
-            (HasTaken (new_buffer_past options.bufpolicy options.bufsize (if cpu == 0 then reserve else 0)) 0)) }
+        ensures empty { IfOk result (λ all. AreTallied
+            (λ cpu. new_tally options.bufpolicy options.bufsize (if cpu == 0 then reserve else 0)) all.items) }
         ensures counts { IfOk result (λ all. All (AtMost 0) all.items) }
     {
         let mut all = Vec::with_capacity(alloc, cpus as usize)?;
@@ -102,32 +122,53 @@ impl Processors {
     ) -> Option<i64>
         requires there { context.now.firing.now.cpu < vec_len self.old.all }
         requires placed { All (λ ecb. ecb.clause < length enabled.now.clauses.now) list.now.ecbs.items }
-        requires counts { All (AtMost (DROPS_LIMIT - ECBS_MAX)) self.old.all.items }
+        requires counts { All (AtMost (DROPS_LIMIT - COMES_MAX)) self.old.all.items }
+        requires fails { FailsAtMost (DROPS_LIMIT - COMES_MAX) self.old }
         requires gives { All (GivenAtMost (ADDED_LIMIT - GIVES_MAX)) self.old.stores.items }
         ensures len { vec_len self.new.all ≡ vec_len self.old.all }
-        ensures counts { (n : ℕ) → All (AtMost n) self.old.all.items
-            → All (AtMost (n + ECBS_MAX)) self.new.all.items }
-        // the firing's processor takes these ECBs up to the first exit, and no other takes anything
-        ensures taken { (pasts : ℕ → BufferPast) (errors : ℕ → ℕ) → ((cpu : ℕ) → EndLast (pasts cpu) false)
-            → AreTaken pasts errors self.old.all.items
-            → (let m = form_of_context context.now in
-            let new = through_exit (map (taking_by false m (map form_of_clause enabled.now.clauses.now)) list.now.ecbs.items) in
-            AreTaken (pasts_and pasts (where_taken m.firing.cpu new))
-            (errors_and errors (where_taken m.firing.cpu new)) self.new.all.items) }
-        ensures exit { (let m = form_of_context context.now in
-            result ≡ first_exit (map (taking_by false m (map form_of_clause enabled.now.clauses.now)) list.now.ecbs.items)) }
-        // the store of the firing's processor is given what they give, and no other is given anything
-        ensures given { (shapes : List ShapeForm) → AreUses shapes (map form_of_clause enabled.now.clauses.now) enabled.now.uses.now
-            → (pasts : ℕ → stores.Past) → AreGiven pasts self.old.stores.items
-            → (let m = form_of_context context.now in
-            let new = through_exit (map (taking_by false m (map form_of_clause enabled.now.clauses.now)) list.now.ecbs.items) in
-            AreGiven (given_and shapes pasts (where_taken m.firing.cpu new)) self.new.stores.items) }
-        ensures gives { (n : ℕ) → All (GivenAtMost n) self.old.stores.items
-            → All (GivenAtMost (n + GIVES_MAX)) self.new.stores.items }
+        ensures counts { (n : ℕ) → All (AtMost n) self.old.all.items → All (AtMost (n + COMES_MAX)) self.new.all.items }
+        ensures fails { (n : ℕ) → FailsAtMost n self.old → FailsAtMost (n + COMES_MAX) self.new }
+        ensures gives { (n : ℕ) → All (GivenAtMost n) self.old.stores.items → All (GivenAtMost (n + GIVES_MAX)) self.new.stores.items }
+        // for each set-up with these clauses, and steps that hold nothing of END: who is after them is then after these ECBs' takings too
+        ensures after { (account : Account) (registry : Registry) (s : SetUp) (steps : List TracingStep)
+            → IsEnabledBy s enabled.now → AreAfter account registry s steps self.old
+            → ((cpu : ℕ) → of_end (comes_by_steps cpu steps) ≡ [])
+            → AreAfter account registry s (steps_and steps
+            (takings_by false s.options steps (form_of_context context.now) s.clauses list.now.ecbs.items)) self.new }
+        ensures exit { (account : Account) (registry : Registry) (s : SetUp) (steps : List TracingStep)
+            → IsEnabledBy s enabled.now → AreAfter account registry s steps self.old
+            → ((cpu : ℕ) → of_end (comes_by_steps cpu steps) ≡ [])
+            → result ≡ first_exit (takings_by false s.options steps (form_of_context context.now) s.clauses list.now.ecbs.items) }
     {
-        let cpu = context.firing.cpu as usize;
-        let store = &mut self.stores[cpu];
-        self.all[cpu].take(&mut self.left, store, enabled, list, context)
+        for ecb in &list.ecbs {
+            let exit = self.take_one(enabled, *ecb, context, false);
+            // an exit ends tracing at this firing: the later ECBs of the probe aren't taken
+            if exit.is_some() {
+                return exit;
+            }
+        }
+        None
+    }
+
+    /// Takes END's ECBs, in order of EPID: an exit is passed over. It takes no memory.
+    fn take_end(&mut self, enabled: &Enabled<'_>, list: &EcbList, context: &Context)
+        requires there { context.now.firing.now.cpu < vec_len self.old.all }
+        requires placed { All (λ ecb. ecb.clause < length enabled.now.clauses.now) list.now.ecbs.items }
+        requires counts { All (AtMost (DROPS_LIMIT - COMES_MAX)) self.old.all.items }
+        requires fails { FailsAtMost (DROPS_LIMIT - COMES_MAX) self.old }
+        requires gives { All (GivenAtMost (ADDED_LIMIT - GIVES_MAX)) self.old.stores.items }
+        ensures len { vec_len self.new.all ≡ vec_len self.old.all }
+        ensures counts { (n : ℕ) → All (AtMost n) self.old.all.items → All (AtMost (n + COMES_MAX)) self.new.all.items }
+        ensures fails { (n : ℕ) → FailsAtMost n self.old → FailsAtMost (n + COMES_MAX) self.new }
+        ensures gives { (n : ℕ) → All (GivenAtMost n) self.old.stores.items → All (GivenAtMost (n + GIVES_MAX)) self.new.stores.items }
+        ensures after { (account : Account) (registry : Registry) (s : SetUp) (steps : List TracingStep)
+            → IsEnabledBy s enabled.now → AreAfter account registry s steps self.old
+            → AreAfter account registry s (steps_and steps
+            (takings_by true s.options steps (form_of_context context.now) s.clauses list.now.ecbs.items)) self.new }
+    {
+        for ecb in &list.ecbs {
+            let _exit = self.take_one(enabled, *ecb, context, true);
+        }
     }
 
     /// Fires END: takes its ECBs, on the first processor, where an exit is passed over. It takes no memory.
@@ -139,25 +180,19 @@ impl Processors {
         list: &EcbList,
     )
         requires placed { All (λ ecb. ecb.clause < length enabled.now.clauses.now) list.now.ecbs.items }
-        requires counts { All (AtMost (DROPS_LIMIT - ECBS_MAX)) self.old.all.items }
+        requires counts { All (AtMost (DROPS_LIMIT - COMES_MAX)) self.old.all.items }
+        requires fails { FailsAtMost (DROPS_LIMIT - COMES_MAX) self.old }
         requires gives { All (GivenAtMost (ADDED_LIMIT - GIVES_MAX)) self.old.stores.items }
         ensures len { vec_len self.new.all ≡ vec_len self.old.all }
-        ensures counts { (n : ℕ) → All (AtMost n) self.old.all.items
-            → All (AtMost (n + ECBS_MAX)) self.new.all.items }
-        // processor 0 takes all of END's ECBs, and no other takes anything
-        ensures taken { (pasts : ℕ → BufferPast) (errors : ℕ → ℕ) → AreTaken pasts errors self.old.all.items
-            → IsSomeAnd (own_context account.now machine.now.registry END)
-            (λ m. let new = map (taking_by true m (map form_of_clause enabled.now.clauses.now)) list.now.ecbs.items in
-            AreTaken (pasts_and pasts (where_taken 0 new)) (errors_and errors (where_taken 0 new))
-            self.new.all.items) }
-        // processor 0's store is given what they give, and no other is given anything
-        ensures given { (shapes : List ShapeForm) → AreUses shapes (map form_of_clause enabled.now.clauses.now) enabled.now.uses.now
-            → (pasts : ℕ → stores.Past) → AreGiven pasts self.old.stores.items
-            → IsSomeAnd (own_context account.now machine.now.registry END)
-            (λ m. let new = map (taking_by true m (map form_of_clause enabled.now.clauses.now)) list.now.ecbs.items in
-            AreGiven (given_and shapes pasts (where_taken 0 new)) self.new.stores.items) }
-        ensures gives { (n : ℕ) → All (GivenAtMost n) self.old.stores.items
-            → All (GivenAtMost (n + GIVES_MAX)) self.new.stores.items }
+        ensures counts { (n : ℕ) → All (AtMost n) self.old.all.items → All (AtMost (n + COMES_MAX)) self.new.all.items }
+        ensures fails { (n : ℕ) → FailsAtMost n self.old → FailsAtMost (n + COMES_MAX) self.new }
+        ensures gives { (n : ℕ) → All (GivenAtMost n) self.old.stores.items → All (GivenAtMost (n + GIVES_MAX)) self.new.stores.items }
+        // who is after some steps is then after the takings of all of END's ECBs too
+        ensures after { (s : SetUp) (steps : List TracingStep)
+            → IsEnabledBy s enabled.now → AreAfter account.now machine.now.registry s steps self.old
+            → IsSomeAnd (own_context account.now machine.now.registry END) (λ m.
+            AreAfter account.now machine.now.registry s (steps_and steps
+            (takings_by true s.options steps m s.clauses list.now.ecbs.items)) self.new) }
     {
         let process = own_process(account);
         let firing = own_firing(END);
@@ -166,13 +201,104 @@ impl Processors {
             process: &process,
             firing: &firing,
         };
-        let store = &mut self.stores[0];
-        self.all[0].take_end(&mut self.left, store, enabled, list, &context);
+        self.take_end(enabled, list, &context);
+    }
+
+    /// Takes one ECB, and answers the status that it exits with, if it exits: what it assigns and draws is done, its record goes into the
+    /// processor's buffer or to a speculation, then its values into the store, and then speculations end.
+    fn take_one(
+        &mut self,
+        enabled: &Enabled<'_>,
+        ecb: Ecb,
+        context: &Context,
+        in_end: bool,
+    ) -> Option<i64>
+        requires there { context.now.firing.now.cpu < vec_len self.old.all }
+        requires placed { ecb.clause < length enabled.now.clauses.now }
+        requires counts { All (AtMost (DROPS_LIMIT - COMES_BY_ONE)) self.old.all.items }
+        requires fails { FailsAtMost (DROPS_LIMIT - COMES_BY_ONE) self.old }
+        requires gives { All (GivenAtMost (ADDED_LIMIT - STATEMENTS_MAX)) self.old.stores.items }
+        ensures len { vec_len self.new.all ≡ vec_len self.old.all }
+        ensures counts { (n : ℕ) → All (AtMost n) self.old.all.items → All (AtMost (n + COMES_BY_ONE)) self.new.all.items }
+        ensures fails { (n : ℕ) → FailsAtMost n self.old → FailsAtMost (n + COMES_BY_ONE) self.new }
+        ensures gives { (n : ℕ) → All (GivenAtMost n) self.old.stores.items → All (GivenAtMost (n + STATEMENTS_MAX)) self.new.stores.items }
+        ensures after { (account : Account) (registry : Registry) (s : SetUp) (steps : List TracingStep)
+            → IsEnabledBy s enabled.now → AreAfter account registry s steps self.old
+            → (in_end ≡ false → (cpu : ℕ) → of_end (comes_by_steps cpu steps) ≡ [])
+            → AreAfter account registry s
+            (steps ++ takes (taking_by in_end s.options steps (form_of_context context.now) s.clauses ecb) ∷ []) self.new }
+        ensures exit { (account : Account) (registry : Registry) (s : SetUp) (steps : List TracingStep)
+            → IsEnabledBy s enabled.now → AreAfter account registry s steps self.old
+            → result ≡ exit_of (taking_by in_end s.options steps (form_of_context context.now) s.clauses ecb) }
+    {
+        let cpu = context.firing.cpu as usize;
+        let clause = &enabled.clauses[ecb.clause];
+        let records = enabled.records[ecb.clause];
+        let scene = scene_at(context, ecb.epid);
+        let dropped = self.locals.drops();
+        let taken = self.left.take_known(
+            ecb.epid,
+            clause,
+            records,
+            &scene,
+            &mut self.locals,
+            &mut self.specs,
+        );
+        // the count of drops never falls: by how much it rose was dropped on this processor
+        self.all[cpu].dyndrops += self.locals.drops().saturating_sub(dropped);
+        match taken {
+            Ok(true) => {
+                self.put_record(cpu, in_end);
+                enabled.uses[ecb.clause].give(&mut self.stores[cpu], &self.left.values);
+                end_speculations(&mut self.specs, &mut self.all, &self.left.ends, in_end);
+                self.left.exit
+            }
+            Ok(false) => None,
+            Err(EvalFault::DivZero) => {
+                self.all[cpu].errors += 1;
+                None
+            }
+        }
+    }
+
+    /// Puts the record that a clause left, if it left one, into a processor's buffer, or under the identifier that it is directed to.
+    fn put_record(&mut self, cpu: usize, in_end: bool)
+        requires there { cpu < vec_len self.old.all }
+        requires counts { All (AtMost (DROPS_LIMIT - 1)) self.old.all.items }
+        ensures len { vec_len self.new.all ≡ vec_len self.old.all }
+        ensures stores { self.new.stores ≡ self.old.stores }
+        ensures locals { self.new.locals ≡ self.old.locals }
+        ensures left { self.new.left ≡ self.old.left }
+        ensures counts { (n : ℕ) → All (AtMost n) self.old.all.items → All (AtMost (n + 1)) self.new.all.items }
+        ensures fails { fails_of self.new.specs ≡ fails_of self.old.specs }
+        ensures specs { (past : SpecPast) → SpecsAt past self.old.specs
+            → SpecsAt (specs_then past (puts_in cpu (form_of_taken self.old.left))) self.new.specs }
+        ensures put { (past : SpecPast) (tallies : ℕ → Tally) → SpecsAt past self.old.specs
+            → EndLast (tallies cpu).came in_end → AreTallied tallies self.old.all.items → AreTallied
+            (changed_at tallies cpu (with_left in_end cpu past (form_of_taken self.old.left) (tallies cpu))) self.new.all.items }
+    {
+        let Some(bytes) = &self.left.bytes else {
+            return;
+        };
+        let processor = &mut self.all[cpu];
+        match self.left.spec {
+            None => {
+                let _put = processor.buffer.put(bytes, in_end);
+            }
+            Some(id) => {
+                drops_told();
+                if let SpecPut::Dropped = self.specs.put(id, cpu, bytes) {
+                    processor.specdrops += 1;
+                }
+            }
+        }
     }
 
     /// Forgets what was given to an aggregation, on every processor. It takes no memory.
     pub(crate) fn trunc(&mut self, aggregation: Aggregation)
         ensures all { self.new.all ≡ self.old.all }
+        ensures locals { self.new.locals ≡ self.old.locals }
+        ensures specs { self.new.specs ≡ self.old.specs }
         ensures given { (pasts : ℕ → stores.Past) → AreGiven pasts self.old.stores.items
             → AreGiven (λ cpu. stores.after (pasts cpu) (stores.truncated aggregation)) self.new.stores.items }
         ensures gives { (n : ℕ) → All (GivenAtMost n) self.old.stores.items

@@ -1,7 +1,6 @@
 //! What a consumer has from its `go` on.
 ghost use Rattle.std.specs.Prelude.{◌≡◌, ◌≤◌, ◌<◌, ◌+◌, ◌*◌, All, None, Some, vec_len};
-ghost use Rattle.dt_ecb.specs.declared.limits.TheConstants.{ECBS_MAX};
-ghost use Rattle.dt_consumer.specs.Counts.{AtMost, GIVES_MAX, own_firings, must_be_left};
+ghost use Rattle.dt_consumer.specs.Counts.{AtMost, COMES_MAX, FailsAtMost, GIVES_MAX, own_firings, must_be_left};
 ghost use Rattle.dt_consumer.specs.Placing.{ArePlaced};
 ghost use Rattle.dt_consumer.specs.Recording.{leave_records};
 ghost use Rattle.dt_life.specs.Uses.{GivenAtMost};
@@ -35,7 +34,8 @@ pub(crate) struct Tracing {
     ghost placed: { All (ArePlaced (vec_len uses)) lists.items },
     ghost few: { history ≤ HISTORY_MAX },
     ghost in_history: { seen + must_be_left course ≤ history },
-    ghost counted: { All (AtMost (ECBS_MAX * (seen + own_firings course))) processors.all.items },
+    ghost counted: { All (AtMost (COMES_MAX * (seen + own_firings course))) processors.all.items },
+    ghost failed: { FailsAtMost (COMES_MAX * (seen + own_firings course)) processors },
     ghost given: { All (GivenAtMost (GIVES_MAX * (seen + own_firings course))) processors.stores.items },
 }
 
@@ -56,7 +56,8 @@ impl Tracing {
     ghost use Rattle.dt_life.specs.Buffers.{reserve_on};
     ghost use Rattle.dt_life.specs.Life.{SetUp, ecbs_in, shapes_in, phase_of, with_event, since_then, happens, is_stopped};
     ghost use Rattle.dt_life.specs.declared.phase.Phase.TheVariants.{Active};
-    ghost use Rattle.dt_life.specs.Takings.{began, seen as sees, snapped, truncated, ended as ends, closed, first_exit, taken_by};
+    ghost use Rattle.dt_life.specs.Takings.{began, seen as sees, snapped, truncated, ended as ends, closed, first_exit};
+    ghost use Rattle.dt_life.specs.TracingSteps.{taken_by};
 
     /// Begins to trace: makes all the room that tracing needs, fires BEGIN, and ends where one of its clauses exits. The
     /// reserve is that of the first processor's buffer.
@@ -116,8 +117,8 @@ impl Tracing {
             → shapes_of programs.now.shapes ≡ shapes_in s
             → reserve ≡ reserve_on account.now machine.now.registry s 0
             → IsTracing account.now machine.now.registry (with_event (since_then s []) began) begun.0
-            × (first_exit (taken_by account.now machine.now.registry
-            (ecbs_in account.now machine.now.registry s) began) ≡ begun.1)) }
+            × (first_exit (taken_by account.now machine.now.registry s.options
+            (ecbs_in account.now machine.now.registry s) [] began) ≡ begun.1)) }
     {
         let probes = machine.probes().len() as u32;
         let lists = EcbList::for_each(alloc, programs.ecbs(), probes + 1)?;
@@ -315,5 +316,29 @@ impl Tracing {
             errors.push(processor.errors)?;
         }
         Ok(errors)
+    }
+
+    /// How many assignments to variables found no room on each processor.
+    pub(crate) fn dyndrops(&self, alloc: Global) -> Result<Vec<u64>, AllocError>
+        ensures { IfOk result (λ dyndrops.
+            dyndrops.items ≡ map (λ processor. processor.dyndrops) self.now.processors.all.items) }
+    {
+        let mut dyndrops = Vec::new(alloc);
+        for one in &self.processors.all {
+            dyndrops.push(one.dyndrops)?;
+        }
+        Ok(dyndrops)
+    }
+
+    /// How many records speculations dropped on each processor.
+    pub(crate) fn specdrops(&self, alloc: Global) -> Result<Vec<u64>, AllocError>
+        ensures { IfOk result (λ specdrops.
+            specdrops.items ≡ map (λ processor. processor.specdrops) self.now.processors.all.items) }
+    {
+        let mut specdrops = Vec::new(alloc);
+        for one in &self.processors.all {
+            specdrops.push(one.specdrops)?;
+        }
+        Ok(specdrops)
     }
 }

@@ -5,14 +5,15 @@ use Rattle.std.specs.Ordering.{int_eq}
 use Rattle.std.proofs.lemmas.Bool.Decides.{Decides-int_eq}
 use Rattle.std.specs.Option.{option_and_then, option_or}
 use Rattle.dt_expr.specs.declared.operators.BinaryOp.TheVariants.{Or, Xor, And}
+use Rattle.dt_locals.specs.History.{LocalsPast}
 use Rattle.dt_expr.specs.Form.{Form, Joined}
 use Rattle.dt_expr.specs.Operators.{holds, decided, binary}
 use Rattle.dt_expr.specs.Scene.{SceneForm}
 use Rattle.dt_expr.specs.Value.{joined, value}
 
-pub and_left : (scene : SceneForm) (left right : Form) → value scene left ≡ Some (pos 0)
-    → value scene (Joined And left right) ≡ Some (pos 0)
-and_left scene left right e = ap (λ (v : Option ℤ). joined And v (value scene right)) e
+pub and_left : (scene : SceneForm) (locals : LocalsPast) (left right : Form) → value scene locals left ≡ Some (pos 0)
+    → value scene locals (Joined And left right) ≡ Some (pos 0)
+and_left scene locals left right e = ap (λ (v : Option ℤ). joined And v (value scene locals right)) e
 
 turned : (b : Bool) → (b ≡ true → ⊥) → not b ≡ true
 turned true h = absurd (h refl)
@@ -24,16 +25,16 @@ is_held z n = turned (int_eq z (pos 0)) (λ h. n ((Decides-int_eq z (pos 0)).0 h
 decides : (z : ℤ) → z ≢ pos 0 → decided Or z ≡ Some (pos 1)
 decides z n = ap (λ (b : Bool). if b then Some (pos 1) else None) (is_held z n)
 
-pub or_left : (scene : SceneForm) (left right : Form) (z : ℤ) → z ≢ pos 0 → value scene left ≡ Some z
-    → value scene (Joined Or left right) ≡ Some (pos 1)
-or_left scene left right z n e =
-    ap (λ (v : Option ℤ). joined Or v (value scene right)) e
-    ∙ ap (λ (d : Option ℤ). option_or d (option_and_then (λ y. binary Or z y) (value scene right))) (decides z n)
+pub or_left : (scene : SceneForm) (locals : LocalsPast) (left right : Form) (z : ℤ) → z ≢ pos 0 → value scene locals left ≡ Some z
+    → value scene locals (Joined Or left right) ≡ Some (pos 1)
+or_left scene locals left right z n e =
+    ap (λ (v : Option ℤ). joined Or v (value scene locals right)) e
+    ∙ ap (λ (d : Option ℤ). option_or d (option_and_then (λ y. binary Or z y) (value scene locals right))) (decides z n)
 
 faulty : (left : Option ℤ) → joined Xor left None ≡ None
 faulty None = refl
 faulty (Some x) = refl
 
-pub xor_right : (scene : SceneForm) (left right : Form) → value scene right ≡ None
-    → value scene (Joined Xor left right) ≡ None
-xor_right scene left right e = ap (joined Xor (value scene left)) e ∙ faulty (value scene left)
+pub xor_right : (scene : SceneForm) (locals : LocalsPast) (left right : Form) → value scene locals right ≡ None
+    → value scene locals (Joined Xor left right) ≡ None
+xor_right scene locals left right e = ap (joined Xor (value scene locals left)) e ∙ faulty (value scene locals left)

@@ -3,6 +3,7 @@
 use crate::operators::{BinaryOp, TextOp, UnaryOp};
 use crate::scene::NumberVariable;
 use crate::text::Text;
+use dt_names::Name;
 
 /// An expression of the clause language, whose value is a signed number of 64 bits.
 ///
@@ -14,6 +15,8 @@ pub enum Expr {
     Number(i64),
     /// A variable that names a number of the scene.
     Variable(NumberVariable),
+    /// `self->x`: the variable of this name of the thread in which the probe fired.
+    Local(Name),
     /// An operator before its operand.
     Unary(UnaryOp, Box<Expr>),
     /// An operator between its operands: the left one, then the right one.

@@ -2,6 +2,7 @@
 ghost use Rattle.std.specs.Prelude.{◌≡◌, ◌≢◌, ℕ, ◌+◌, ◌%◌, ◌^◌, ◌<◌, min, max, Some, None, ℤ, pos, ◌+ℤ◌, ◌-ℤ◌, ◌*ℤ◌, neg_ℤ, ◌≤ℤ◌, FitsSigned, int_div, int_rem, unsigned_abs};
 ghost use Rattle.std.specs.Int.{w64, int_bit_and, int_bit_not, int_bit_or, int_bit_xor};
 ghost use Rattle.dt_expr.specs.declared.operators.BinaryOp.TheVariants.{Or, Xor, And, BitOr, BitXor, BitAnd};
+ghost use Rattle.dt_locals.specs.History.{LocalsPast};
 ghost use Rattle.dt_expr.specs.Form.{Form, Joined};
 ghost use Rattle.dt_expr.specs.Operators.{bit_of, binary, wrapped, DifferBy, shift_count, shifted_right, quotient, remainder};
 ghost use Rattle.dt_expr.specs.Scene.{SceneForm};
@@ -39,12 +40,12 @@ pub fn bits()
 /// Law: where the left side of `&&` is 0, or that of `||` is not, the right side does not count, whether or not it divides
 /// by zero; a fault on the right of `^^` always counts.
 pub fn decisions()
-    ensures and { (scene : SceneForm) (left right : Form) → value scene left ≡ Some (pos 0)
-        → value scene (Joined And left right) ≡ Some (pos 0) }
-    ensures or { (scene : SceneForm) (left right : Form) (z : ℤ) → z ≢ pos 0 → value scene left ≡ Some z
-        → value scene (Joined Or left right) ≡ Some (pos 1) }
-    ensures xor { (scene : SceneForm) (left right : Form) → value scene right ≡ None
-        → value scene (Joined Xor left right) ≡ None }
+    ensures and { (scene : SceneForm) (locals : LocalsPast) (left right : Form) → value scene locals left ≡ Some (pos 0)
+        → value scene locals (Joined And left right) ≡ Some (pos 0) }
+    ensures or { (scene : SceneForm) (locals : LocalsPast) (left right : Form) (z : ℤ) → z ≢ pos 0 → value scene locals left ≡ Some z
+        → value scene locals (Joined Or left right) ≡ Some (pos 1) }
+    ensures xor { (scene : SceneForm) (locals : LocalsPast) (left right : Form) → value scene locals right ≡ None
+        → value scene locals (Joined Xor left right) ≡ None }
 {}
 
 /// Law: each of the 64 places of `x | y`, `x & y` and `x ^ y`, in two's complement, has the greater, the lesser and the sum

@@ -26,7 +26,8 @@ flaw_lines (Some why) =
     chosen ArePlainLines (bytes_eq why (codes "Variable")) _ _ (tested (codes "no variable is called so") refl) (
     chosen ArePlainLines (bytes_eq why (codes "TooLong")) _ _ (tested (codes "this is too long, or one more than there may be") refl) (
     chosen ArePlainLines (bytes_eq why (codes "Range")) _ _ (tested (codes "these bounds make no levels: the lower is below the upper, the step divides the range, 512 levels at most") refl) (
-    tested (codes "this is no program") refl))))))
+    chosen ArePlainLines (bytes_eq why (codes "Spec")) _ _ (tested (codes "this doesn't go with an earlier statement of its clause: put speculate first, once and without exit and aggregations, and commit into a clause of its own") refl) (
+    tested (codes "this is no program") refl)))))))
 
 written : (before after : List ℕ) → ArePlainLines before → ArePlainLines after → ArePlainWords (words_around before after)
 written before after first second = record { before = first; after = second }
@@ -44,7 +45,7 @@ words_plain number why =
     chosen ArePlainWords (number == 8) _ _ (written (codes "the aggregation @") (codes " is used with another function, other bounds or other kinds of keys elsewhere") (tested (codes "the aggregation @") refl) (tested (codes " is used with another function, other bounds or other kinds of keys elsewhere") refl)) (
     chosen ArePlainWords (number == 9) _ _ (alone (codes "there is no room: 1,024 enablings, 64 aggregations, or under fill the bytes of a buffer for END's records") (tested (codes "there is no room: 1,024 enablings, 64 aggregations, or under fill the bytes of a buffer for END's records") refl)) (
     chosen ArePlainWords (number == 10) _ _ (alone (codes "this can't be asked while tracing stands as it does") (tested (codes "this can't be asked while tracing stands as it does") refl)) (
-    chosen ArePlainWords (number == 11) _ _ (alone (codes "no option is called so or takes this value: bufsize (1 to 1048576), bufpolicy (switch, fill, ring), aggsize (8 to 1048576), histsize (1 to 1048576)") (tested (codes "no option is called so or takes this value: bufsize (1 to 1048576), bufpolicy (switch, fill, ring), aggsize (8 to 1048576), histsize (1 to 1048576)") refl)) (
+    chosen ArePlainWords (number == 11) _ _ (alone (codes "no option is called so or takes this value: bufsize or histsize (1 to 1048576), bufpolicy (switch, fill, ring), aggsize (8 to 1048576), dynvarsize (32 to 1048576), nspec (1 to 64), specsize (4 to 65536)") (tested (codes "no option is called so or takes this value: bufsize or histsize (1 to 1048576), bufpolicy (switch, fill, ring), aggsize (8 to 1048576), dynvarsize (32 to 1048576), nspec (1 to 64), specsize (4 to 65536)") refl)) (
     chosen ArePlainWords (number == 15) _ _ (alone (codes "the session's 1,024 lines are spent") (tested (codes "the session's 1,024 lines are spent") refl)) (
     chosen ArePlainWords (number == 16) _ _ (alone (codes "the service has no memory for this now; try again") (tested (codes "the service has no memory for this now; try again") refl)) (
     chosen ArePlainWords (number == 17) _ _ (alone (codes "all seats of the service are taken; try again later") (tested (codes "all seats of the service are taken; try again later") refl)) (

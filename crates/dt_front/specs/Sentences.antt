@@ -22,6 +22,7 @@ flaw (Some why) =
     else if bytes_eq why (codes "Variable") then codes "no variable is called so"
     else if bytes_eq why (codes "TooLong") then codes "this is too long, or one more than there may be"
     else if bytes_eq why (codes "Range") then codes "these bounds make no levels: the lower is below the upper, the step divides the range, 512 levels at most"
+    else if bytes_eq why (codes "Spec") then codes "this doesn't go with an earlier statement of its clause: put speculate first, once and without exit and aggregations, and commit into a clause of its own"
     else codes "this is no program"
 
 -- the words by the refusal's number, and those for a program's text by what is wrong with it
@@ -35,7 +36,7 @@ sentence_words number why =
     else if number == 8 then words_around (codes "the aggregation @") (codes " is used with another function, other bounds or other kinds of keys elsewhere")
     else if number == 9 then words_around (codes "there is no room: 1,024 enablings, 64 aggregations, or under fill the bytes of a buffer for END's records") []
     else if number == 10 then words_around (codes "this can't be asked while tracing stands as it does") []
-    else if number == 11 then words_around (codes "no option is called so or takes this value: bufsize (1 to 1048576), bufpolicy (switch, fill, ring), aggsize (8 to 1048576), histsize (1 to 1048576)") []
+    else if number == 11 then words_around (codes "no option is called so or takes this value: bufsize or histsize (1 to 1048576), bufpolicy (switch, fill, ring), aggsize (8 to 1048576), dynvarsize (32 to 1048576), nspec (1 to 64), specsize (4 to 65536)") []
     else if number == 15 then words_around (codes "the session's 1,024 lines are spent") []
     else if number == 16 then words_around (codes "the service has no memory for this now; try again") []
     else if number == 17 then words_around (codes "all seats of the service are taken; try again later") []

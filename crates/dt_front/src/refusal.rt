@@ -99,7 +99,7 @@ fn words(number: u64, why: Option<&str>) -> (&'static str, &'static str)
         ),
         10 => ("this can't be asked while tracing stands as it does", ""),
         11 => (
-            "no option is called so or takes this value: bufsize (1 to 1048576), bufpolicy (switch, fill, ring), aggsize (8 to 1048576), histsize (1 to 1048576)",
+            "no option is called so or takes this value: bufsize or histsize (1 to 1048576), bufpolicy (switch, fill, ring), aggsize (8 to 1048576), dynvarsize (32 to 1048576), nspec (1 to 64), specsize (4 to 65536)",
             "",
         ),
         15 => ("the session's 1,024 lines are spent", ""),
@@ -127,6 +127,8 @@ fn flaw(why: Option<&str>) -> &'static str
         Some("TooLong") => "this is too long, or one more than there may be",
         Some("Range") =>
             "these bounds make no levels: the lower is below the upper, the step divides the range, 512 levels at most",
+        Some("Spec") =>
+            "this doesn't go with an earlier statement of its clause: put speculate first, once and without exit and aggregations, and commit into a clause of its own",
         _ => "this is no program",
     }
 }

@@ -1,8 +1,8 @@
 -- What isn't refused leaves the lists of a state within the limits.
 use Rattle.std.proofs.Common.{◌≡◌, ◌⊎◌, inl, inr, ℕ, ℤ, ◌+◌, ◌<◌, ◌≤◌, leb, Bool, true, false, ◌&&◌, List, [], Ok}
 use Rattle.std.proofs.Common.{◌∷◌, ◌++◌, length, Option, Some, None, is_some, refl, sym, ap, ◌∙◌, subst, length-append}
-use Rattle.std.proofs.Common.{arith, leb-false, cond, if◌then◌else◌, pos}
-use Rattle.std.specs.Prelude.{option_and_then}
+use Rattle.std.proofs.Common.{eqb, arith, leb-false, cond, if◌then◌else◌, pos}
+use Rattle.std.specs.Prelude.{option_and_then, option_map}
 use Rattle.dt_expr.specs.Form.{Form}
 use Rattle.dt_program.specs.declared.clause.TheConstants.{DESCRIPTIONS_MAX, STATEMENTS_MAX, KEYS_MAX, FRAMES_MAX}
 use Rattle.dt_program.specs.declared.program.TheConstants.{CLAUSES_MAX, TOKENS_MAX}
@@ -13,14 +13,17 @@ use Rattle.dt_lang.specs.declared.word.Action.{Action}
 use Rattle.dt_lang.specs.declared.word.Action.TheVariants as action
 use Rattle.dt_lang.specs.declared.word.Function.{Function}
 use Rattle.dt_lang.specs.declared.word.Function.TheVariants as function
+use Rattle.dt_lang.specs.declared.word.Keyword.TheVariants as keyword
 use Rattle.dt_lang.specs.declared.word.Word.TheVariants as word
 use Rattle.dt_lang.specs.machine.ExpressionState as expression
 use Rattle.dt_lang.specs.Grammar.{call_of, statement_of, before_statement, after_statement}
-use Rattle.dt_program.specs.Clause.{ArgForm, number, CallForm, StatementForm, aggregate, ClauseForm}
-use Rattle.dt_lang.specs.Stand.{Slot, predicate, given, key, value}
+use Rattle.dt_program.specs.Clause.{ArgForm, number, CallForm, StatementForm, aggregate, assign, ClauseForm}
+use Rattle.dt_lang.specs.Stand.{Slot, predicate, given, key, value, assignment}
 use Rattle.dt_lang.specs.machine.ClauseState.{BoundForm, at_lower, at_upper, at_step, PlaceForm, outside, described, listed, InsideForm, inside, inside_step_from}
 use Rattle.dt_lang.specs.machine.ClauseState.{guarded, body, called, stack_opened, closing, named, keyed, assigned, applied, within}
-use Rattle.dt_lang.specs.machine.ClauseState.{bounding, negating, bounded, ProgramState, program_at, ended, entered}
+use Rattle.dt_lang.specs.machine.ClauseState.{bounding, negating, bounded, ProgramState, program_at, with_statement, ended, entered}
+use Rattle.dt_lang.specs.machine.ClauseState.{self_read, arrow_read, variable, drawing, from_self, from_variable, from_drawing}
+use Rattle.dt_lang.specs.machine.ClauseState.{shut_assignment, is_speculation, begin_draw, end_within}
 use Rattle.dt_lang.specs.machine.ClauseState.{from_outside, from_described, from_listed, from_guarded, from_before_statement, from_after_statement}
 use Rattle.dt_lang.specs.machine.ClauseState.{after_call, from_called, stack_of, from_stack_opened, from_closing, from_named, from_keyed}
 use Rattle.dt_lang.specs.machine.ClauseState.{from_assigned, function_given, from_applied, shut_predicate, shut_given}
@@ -68,6 +71,12 @@ module _ (cs : List ClauseForm) where
   })
   fits_outside _ next c l e = absurd (none_some e)
 
+fits_after_statement : (cs : List ClauseForm) (c : ClauseForm) (t : Token) (next : ProgramState) → FitsClause cs c
+    → from_after_statement cs c t ≡ Some next → Fits next
+fits_after_statement cs c (token.Sign sign.Semicolon) next h e = landed _ _ e h
+fits_after_statement cs c (token.Sign sign.CloseBrace) next h e = landed _ _ e (longer cs c CLAUSES_MAX h.room)
+fits_after_statement cs c _ next h e = absurd (none_some e)
+
 module _ (cs : List ClauseForm) (c : ClauseForm) where
   fits_described : (t : Token) (next : ProgramState) → FitsClause cs c → from_described cs c t ≡ Some next → Fits next
   fits_described (token.Sign sign.Comma) next h e = landed _ _ e h
@@ -96,14 +105,11 @@ module _ (cs : List ClauseForm) (c : ClauseForm) where
   fits_before_statement (token.Sign sign.CloseBrace) next h l e = landed _ _ e (longer cs c CLAUSES_MAX h.room)
   fits_before_statement (token.Word (word.Action a)) next h l e =
       landed _ _ e (record { clause = h; room = leb-false STATEMENTS_MAX (length c.statements) (left_false _ (unmet _ _ l)) })
+  fits_before_statement (token.Word (word.Keyword keyword.ThreadLocal)) next h l e =
+      landed _ _ e (record { clause = h; room = leb-false STATEMENTS_MAX (length c.statements) (left_false _ (unmet _ _ l)) })
   fits_before_statement (token.Aggregation name) next h l e =
       landed _ _ e (record { clause = h; room = leb-false STATEMENTS_MAX (length c.statements) (left_false _ (unmet _ _ l)) })
   fits_before_statement _ next h l e = absurd (none_some e)
-
-  fits_after_statement : (t : Token) (next : ProgramState) → FitsClause cs c → from_after_statement cs c t ≡ Some next → Fits next
-  fits_after_statement (token.Sign sign.Semicolon) next h e = landed _ _ e h
-  fits_after_statement (token.Sign sign.CloseBrace) next h e = landed _ _ e (longer cs c CLAUSES_MAX h.room)
-  fits_after_statement _ next h e = absurd (none_some e)
 
   fits_ended : (s : StatementForm) → FitsStatement cs c → Fits (ended cs c s)
   fits_ended s h = record {
@@ -230,17 +236,34 @@ module _ (cs : List ClauseForm) (c : ClauseForm) where
   fits_value name keys fn (number f) (token.Sign sign.Comma) next h e = fits_levels name keys fn f next h e
   fits_value name keys fn _ _ next h e = absurd (none_some e)
 
+  fits_assignment : (name : List ℕ) (a : ArgForm) (t : Token) (next : ProgramState) → FitsStatement cs c
+      → shut_assignment cs c name a t ≡ Some next → Fits next
+  fits_assignment name (number f) t next h e =
+      fits_after_statement cs (with_statement c (assign name f)) t next (fits_ended (assign name f) h) e
+  fits_assignment name _ t next h e = absurd (none_some e)
+
+  fits_drawn : (b : Bool) (name : List ℕ) (next : ProgramState) → FitsStatement cs c
+      → (if b then Some (program_at cs c (inside (drawing name))) else None) ≡ Some next → Fits next
+  fits_drawn true name next h e = landed _ _ e h
+  fits_drawn false name next h e = absurd (none_some e)
+
+  fits_begin_draw : (slot : Slot) (n : ℕ) (x : expression.State) (t : Token) (next : ProgramState)
+      → FitsSlot cs c slot n x → begin_draw cs c slot n t ≡ Some next → Fits next
+  fits_begin_draw (assignment name) n x t next h e = fits_drawn (eqb n 0 && is_speculation t) name next h e
+  fits_begin_draw _ n x t next h e = absurd (none_some e)
+
   fits_shut : (slot : Slot) (a : ArgForm) (n : ℕ) (x : expression.State) (t : Token) (next : ProgramState)
       → FitsSlot cs c slot n x → expression.done x ≡ Some a → shut cs c slot t a ≡ Some next → Fits next
   fits_shut predicate a n x t next h d e = fits_predicate a t next h e
   fits_shut (given action) a n x t next h d e = fits_argument action a t next h e
   fits_shut (key name keys) a n x t next h d e = fits_key name keys a n x t next h d e
   fits_shut (value name keys fn) a n x t next h d e = fits_value name keys fn a t next h e
+  fits_shut (assignment name) a n x t next h d e = fits_assignment name a t next h e
 
   fits_done : (slot : Slot) (n : ℕ) (x : expression.State) (t : Token) (next : ProgramState) (d : Option ArgForm)
-      → expression.done x ≡ d → FitsSlot cs c slot n x → option_and_then (shut cs c slot t) d ≡ Some next → Fits next
+      → expression.done x ≡ d → FitsSlot cs c slot n x → end_within cs c slot n t d ≡ Some next → Fits next
   fits_done slot n x t next (Some a) d h e = fits_shut slot a n x t next h d e
-  fits_done slot n x t next None d h e = absurd (none_some e)
+  fits_done slot n x t next None d h e = fits_begin_draw slot n x t next h e
 
   key_room : (name : List ℕ) (keys : List ArgForm) (n : ℕ) (x : expression.State) → FitsKey cs c keys n x
       → limit_within (key name keys) n ≡ None → length keys < KEYS_MAX
@@ -259,6 +282,7 @@ module _ (cs : List ClauseForm) (c : ClauseForm) where
   fits_more_of (given a) n x next h l = h
   fits_more_of (key name keys) n x next h l = record { target = h.target; room = inl (key_room name keys n x h l) }
   fits_more_of (value name keys fn) n x next h l = h
+  fits_more_of (assignment name) n x next h l = h
 
   few_more : (slot : Slot) (n : ℕ) → limit_within slot n ≡ None → n + 1 ≤ TOKENS_MAX
   few_more slot n l = let i = leb-false TOKENS_MAX n (within_unmet (leb TOKENS_MAX n) _ l).0 in omega arith
@@ -297,6 +321,25 @@ module _ (cs : List ClauseForm) (c : ClauseForm) where
     fits_bounded (at_step lower upper) z (token.Sign sign.CloseParen) next e = landed _ _ e (fits_ended _ h.statement)
     fits_bounded _ z _ next e = absurd (none_some e)
 
+  fits_self : (t : Token) (next : ProgramState) → FitsStatement cs c → from_self cs c t ≡ Some next → Fits next
+  fits_self (token.Sign sign.Arrow) next h e = landed _ _ e h
+  fits_self _ next h e = absurd (none_some e)
+
+  fits_name : (o : Option (List ℕ)) (next : ProgramState) → FitsStatement cs c
+      → option_map (λ name. program_at cs c (inside (variable name))) o ≡ Some next → Fits next
+  fits_name (Some name) next h e = landed _ _ e h
+  fits_name None next h e = absurd (none_some e)
+
+  fits_variable : (name : List ℕ) (t : Token) (next : ProgramState) → FitsStatement cs c
+      → from_variable cs c name t ≡ Some next → Fits next
+  fits_variable name (token.Sign sign.Equal) next h e = landed _ _ e (record { fits = h; few = omega arith })
+  fits_variable name _ next h e = absurd (none_some e)
+
+  fits_drawing : (name : List ℕ) (t : Token) (next : ProgramState) → FitsStatement cs c
+      → from_drawing cs c name t ≡ Some next → Fits next
+  fits_drawing name (token.Sign sign.OpenParen) next h e = landed _ _ e h
+  fits_drawing name _ next h e = absurd (none_some e)
+
   fits_inside : (p : InsideForm) (t : Token) (next : ProgramState) → FitsInside cs c p
       → inside_step_from cs c p t ≡ Some next → Fits next
   fits_inside (called a) t next h e = fits_called a t next h e
@@ -309,6 +352,10 @@ module _ (cs : List ClauseForm) (c : ClauseForm) where
   fits_inside (bounding name keys f b) t next h e = fits_bounding name keys f h b t next e
   fits_inside (negating name keys f b) t next h e = fits_negating name keys f h b t next e
   fits_inside (bounded name keys f b z) t next h e = fits_bounded name keys f h b z t next e
+  fits_inside self_read t next h e = fits_self t next h e
+  fits_inside arrow_read t next h e = fits_name (expression.name_of_token t) next h e
+  fits_inside (variable name) t next h e = fits_variable name t next h e
+  fits_inside (drawing name) t next h e = fits_drawing name t next h e
 
   fits_from : (p : PlaceForm) (t : Token) (next : ProgramState) → FitsAt cs c p → too_long_at cs c p t ≡ None
       → program_step_from cs c p t ≡ Some next → Fits next
@@ -317,7 +364,7 @@ module _ (cs : List ClauseForm) (c : ClauseForm) where
   fits_from listed t next h l e = fits_listed t next h l e
   fits_from guarded t next h l e = fits_guarded t next h e
   fits_from (body before_statement) t next h l e = fits_before_statement t next h l e
-  fits_from (body after_statement) t next h l e = fits_after_statement t next h e
+  fits_from (body after_statement) t next h l e = fits_after_statement cs c t next h e
   fits_from (inside p) t next h l e = fits_inside p t next h e
   fits_from (within slot n x) t next h l e = fits_within slot n x t next h l e
 

@@ -6,3 +6,4 @@ pub mod ParseLemmas
 pub mod PendingLemmas
 pub mod Digits
 pub mod Pieces
+pub mod KindLemmas

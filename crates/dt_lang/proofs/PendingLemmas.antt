@@ -11,8 +11,8 @@ use Rattle.dt_lang.specs.declared.pending.PendingOperator.{PendingOperator}
 use Rattle.dt_expr.specs.Form.{Form, Prefixed, Joined}
 use Rattle.dt_expr.specs.declared.text.Text.{Text}
 use Rattle.dt_lang.specs.Expression.{OPERAND}
-use Rattle.dt_lang.specs.machine.ExpressionState.{PendingForm, opened, before, after, HandForm, nothing, whole, lone, compares}
-use Rattle.dt_lang.specs.machine.ExpressionState.{wants_at, State, state, done, done_from, number_alone, text_alone, leave}
+use Rattle.dt_lang.specs.machine.ExpressionState.{PendingForm, opened, before, after, HandForm, whole, lone}
+use Rattle.dt_lang.specs.machine.ExpressionState.{State, state, done, done_from, number_alone, text_alone, leave}
 use Rattle.dt_lang.specs.machine.ExpressionState.{Closed, binds, is_bound, around, close, is_opened}
 use Rattle.dt_lang.specs.laws.ExpressionSteps.{close_ends}
 use Rattle.dt_lang.specs.machine.ExpressionView.{pending_form}
@@ -158,8 +158,7 @@ pub text_waits : (left : List PendingForm) (a : Text) → (left ≡ [] → ⊥) 
 text_waits [] a h = absurd (h refl)
 text_waits (_ ∷ left) a h = refl
 
-pub done_waits : (s : State) (hand : HandForm) → s.hand ≡ hand → wants_at hand ≡ true → done s ≡ None
+pub done_waits : (s : State) (hand : HandForm) → s.hand ≡ hand
+    → ((pending : List PendingForm) → done_from pending hand ≡ None) → done s ≡ None
 unfolding done
-done_waits s nothing e h = ap (done_from s.pending) e
-done_waits s (compares op a) e h = ap (done_from s.pending) e
-done_waits s _ e h = cc
+done_waits s hand e h = ap (done_from s.pending) e ∙ h s.pending

@@ -1,6 +1,6 @@
 -- Which tokens are an expression. Guide, Types, Operators and Expressions (precedence).
 use Rattle.std.specs.Prelude.{◌≡◌, ℕ, ◌+◌, ◌<◌, Bool, true, List, [], ◌∷◌, ◌++◌, Option, Some, None, ℤ}
-use Rattle.dt_expr.specs.Form.{Form, Num, Named, Prefixed, Joined, Compared}
+use Rattle.dt_expr.specs.Form.{Form, Num, Named, Local, Prefixed, Joined, Compared}
 use Rattle.dt_expr.specs.declared.operators.BinaryOp.{BinaryOp}
 use Rattle.dt_expr.specs.declared.operators.BinaryOp.TheVariants as binary
 use Rattle.dt_expr.specs.declared.scene.NumberVariable.{NumberVariable}
@@ -14,7 +14,10 @@ use Rattle.dt_lang.specs.declared.token.Sign.{Sign}
 use Rattle.dt_lang.specs.declared.token.Sign.TheVariants as sign
 use Rattle.dt_lang.specs.declared.token.Token.{Token}
 use Rattle.dt_lang.specs.declared.token.Token.TheVariants as token
+use Rattle.dt_lang.specs.declared.word.Keyword.TheVariants as keyword
+use Rattle.dt_lang.specs.declared.word.Word.{Word}
 use Rattle.dt_lang.specs.declared.word.Word.TheVariants as word
+use Rattle.dt_lang.specs.Word.{word_bytes}
 use Rattle.dt_program.specs.Clause.{ArgForm, number, text}
 
 -- the operator before an operand that a sign is
@@ -90,6 +93,11 @@ text_token (token.String bytes) = Some (operand.Literal bytes)
 text_token (token.Word (word.Text variable)) = Some (operand.Variable variable)
 text_token _ = None
 
+-- The tokens are `self`, `->` and an identifier: the thread-local variable of this name.
+pub data ReadsLocal : List Token → List ℕ → Type 0 where
+  a_local : (w : Word) (name : List ℕ) → word_bytes w ≡ Some name
+      → ReadsLocal (token.Word (word.Keyword keyword.ThreadLocal) ∷ token.Sign sign.Arrow ∷ token.Word w ∷ []) name
+
 -- A sign is this operator; where `/` ends a predicate, it isn't one.
 pub record IsOperator (divides : Bool) (s : Sign) (op : BinaryOp) : Type 0 where
   pub names : operator_of s ≡ Some op
@@ -101,6 +109,8 @@ pub data ReadsExpr : Bool → ℕ → List Token → Form → Type 0 where
   a_number : (divides : Bool) (z : ℤ) → ReadsExpr divides OPERAND (token.Number z ∷ []) (Num z)
   a_variable : (divides : Bool) (v : NumberVariable)
       → ReadsExpr divides OPERAND (token.Word (word.Number v) ∷ []) (Named v)
+  thread_local : (divides : Bool) (ts : List Token) (name : List ℕ) → ReadsLocal ts name
+      → ReadsExpr divides OPERAND ts (Local name)
   prefixed : (divides : Bool) (s : Sign) (op : UnaryOp) (ts : List Token) (f : Form)
       → prefix_of s ≡ Some op → ReadsExpr divides OPERAND ts f
       → ReadsExpr divides OPERAND (token.Sign s ∷ ts) (Prefixed op f)

@@ -3,7 +3,7 @@ use Rattle.std.specs.Prelude.{ℕ, List, codes}
 use Rattle.dt_lang.specs.declared.fault.Flaw.{Flaw}
 use Rattle.dt_lang.specs.declared.fault.Flaw.TheVariants as flaw
 use Rattle.dt_lang.specs.declared.fault.Why.{Why}
-use Rattle.dt_lang.specs.declared.fault.Why.TheVariants.{Syntax, Probe, Action, Variable, TooLong, Range}
+use Rattle.dt_lang.specs.declared.fault.Why.TheVariants.{Syntax, Probe, Action, Variable, TooLong, Range, Spec}
 
 -- the word for a cause
 abbrev pub why_word : Why → List ℕ
@@ -13,6 +13,7 @@ why_word Action = codes "Action"
 why_word Variable = codes "Variable"
 why_word TooLong = codes "TooLong"
 why_word Range = codes "Range"
+why_word Spec = codes "Spec"
 
 -- the cause, without what was found
 abbrev pub why_of : Flaw → Why
@@ -22,3 +23,4 @@ why_of flaw.Action = Action
 why_of flaw.Variable = Variable
 why_of (flaw.TooLong limit) = TooLong
 why_of (flaw.Range fault) = Range
+why_of flaw.Spec = Spec

@@ -12,9 +12,10 @@ use Rattle.dt_lang.specs.declared.word.Action.{Action}
 use Rattle.dt_lang.specs.declared.word.Action.TheVariants as action
 use Rattle.dt_lang.specs.declared.word.Function.{Function}
 use Rattle.dt_lang.specs.declared.word.Function.TheVariants as function
+use Rattle.dt_lang.specs.declared.word.Keyword.TheVariants as keyword
 use Rattle.dt_lang.specs.declared.word.Word.TheVariants as word
-use Rattle.dt_program.specs.Clause.{ArgForm, number, CallForm, count, sum, avg, min, max, quantize, lquantize, StatementForm, trace, stack, ustack, exit, aggregate, ClauseForm}
-use Rattle.dt_lang.specs.Expression.{ReadsExpr, ReadsArgument}
+use Rattle.dt_program.specs.Clause.{ArgForm, number, CallForm, count, sum, avg, min, max, quantize, lquantize, StatementForm, trace, stack, ustack, exit, aggregate, assign, draw, speculate, commit, discard, ClauseForm}
+use Rattle.dt_lang.specs.Expression.{ReadsExpr, ReadsArgument, ReadsLocal}
 
 -- The tokens are a head: descriptions with `,` between them.
 pub data ReadsHead : List Token → List DescForm → Type 0 where
@@ -85,6 +86,9 @@ pub data ReadsCall : List Token → CallForm → Type 0 where
 abbrev pub statement_of : Action → ArgForm → Option StatementForm
 statement_of action.Trace a = Some (trace a)
 statement_of action.Exit (number f) = Some (exit f)
+statement_of action.Speculate (number f) = Some (speculate f)
+statement_of action.Commit (number f) = Some (commit f)
+statement_of action.Discard (number f) = Some (discard f)
 statement_of _ a = None
 
 -- the action is given a number, whichever it is
@@ -113,6 +117,12 @@ pub data ReadsStatement : List Token → StatementForm → Type 0 where
   aggregating : (ts us : List Token) (name : List ℕ) (keys : List ArgForm) (call : CallForm)
       → ReadsTarget ts name keys → ReadsCall us call
       → ReadsStatement (ts ++ (token.Sign sign.Equal ∷ us)) (aggregate name keys call)
+  assigning : (ts us : List Token) (name : List ℕ) (f : Form) → ReadsLocal ts name → ReadsExpr true 0 us f
+      → ReadsStatement (ts ++ (token.Sign sign.Equal ∷ us)) (assign name f)
+  drawing : (ts : List Token) (name : List ℕ) → ReadsLocal ts name
+      → ReadsStatement
+      (ts ++ (token.Sign sign.Equal ∷ token.Word (word.Keyword keyword.Speculation) ∷ token.Sign sign.OpenParen
+      ∷ token.Sign sign.CloseParen ∷ [])) (draw name)
 
 -- where in a body the tokens end: where a statement may begin, or right after one
 pub data Spot : Type 0 where

@@ -6,6 +6,7 @@ pub mod Refused
 pub mod Stand
 pub mod Grammar
 pub mod Expression
+pub mod Together
 pub mod Fault
 pub mod Lexeme
 pub mod Mode

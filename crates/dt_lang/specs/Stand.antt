@@ -9,6 +9,7 @@ use Rattle.dt_lang.specs.declared.word.Function.{Function}
 use Rattle.dt_lang.specs.declared.word.Function.TheVariants as function
 use Rattle.dt_lang.specs.declared.word.Word.TheVariants as word
 use Rattle.dt_program.specs.Clause.{ArgForm, ClauseForm}
+use Rattle.dt_lang.specs.Expression.{ReadsLocal}
 use Rattle.dt_lang.specs.Grammar.{ReadsHead, ReadsOpening, ReadsKeys, ReadsTarget, TakesNumber, Spot, before_statement, ReadsBody, ReadsClauses}
 
 -- The tokens are whole clauses and a head.
@@ -53,13 +54,14 @@ pub data Slot : Type 0 where
   given : Action → Slot
   key : (name : List ℕ) (before : List ArgForm) → Slot
   value : (name : List ℕ) (keys : List ArgForm) → Function → Slot
+  assignment : (name : List ℕ) → Slot
 
 -- whether `/` is an operator there, outside parentheses
 abbrev pub divides_in : Slot → Bool
 divides_in predicate = false
 divides_in _ = true
 
--- The tokens end where this begins: a predicate, an argument, a key or a value.
+-- The tokens end where this begins: a predicate, an argument, a key, or what an aggregation or a variable is given.
 pub data SlotOpens : Slot → List Token → List ClauseForm → ClauseForm → Type 0 where
   a_predicate : (ts : List Token) (cs : List ClauseForm) (ds : List DescForm) → HeadStands ts cs ds
       → SlotOpens predicate (ts ++ (token.Sign sign.Slash ∷ [])) cs
@@ -75,3 +77,6 @@ pub data SlotOpens : Slot → List Token → List ClauseForm → ClauseForm → 
       → fn ≢ function.Count → TargetStands ts cs c name keys
       → SlotOpens (value name keys fn)
       (ts ++ (token.Sign sign.Equal ∷ token.Word (word.Function fn) ∷ token.Sign sign.OpenParen ∷ [])) cs c
+  a_variable : (ts us : List Token) (cs : List ClauseForm) (c : ClauseForm) (name : List ℕ)
+      → BodyStands before_statement ts cs c → ReadsLocal us name
+      → SlotOpens (assignment name) (ts ++ (us ++ (token.Sign sign.Equal ∷ []))) cs c

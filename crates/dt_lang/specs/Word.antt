@@ -1,16 +1,18 @@
 -- What identifiers are names of. Guide, Actions and Subroutines, Aggregations and Variables.
-use Rattle.std.specs.Prelude.{◌≡◌, ◌≢◌, ℕ, ◌<◌, ◌≤◌, List, length, Option, Some, None, codes}
+use Rattle.std.specs.Prelude.{◌≡◌, ◌≢◌, ℕ, List, Option, Some, None, codes}
 use Rattle.dt_expr.specs.declared.scene.NumberVariable.{NumberVariable}
 use Rattle.dt_expr.specs.declared.scene.NumberVariable.TheVariants as number
 use Rattle.dt_expr.specs.declared.scene.TextVariable.{TextVariable}
 use Rattle.dt_expr.specs.declared.scene.TextVariable.TheVariants as text
-use Rattle.dt_names.specs.Limits.{short_text_max}
+use Rattle.dt_names.specs.Name.{IsName}
 use Rattle.dt_lang.specs.declared.word.Action.{Action}
 use Rattle.dt_lang.specs.declared.word.Action.TheVariants as action
 use Rattle.dt_lang.specs.declared.word.Function.{Function}
 use Rattle.dt_lang.specs.declared.word.Function.TheVariants as function
 use Rattle.dt_lang.specs.declared.word.Destructive.{Destructive}
 use Rattle.dt_lang.specs.declared.word.Destructive.TheVariants as destructive
+use Rattle.dt_lang.specs.declared.word.Keyword.{Keyword}
+use Rattle.dt_lang.specs.declared.word.Keyword.TheVariants as keyword
 use Rattle.dt_lang.specs.declared.word.Word.{Word}
 use Rattle.dt_lang.specs.declared.word.Word.TheVariants as word
 
@@ -19,6 +21,9 @@ name_of_action action.Trace = codes "trace"
 name_of_action action.Stack = codes "stack"
 name_of_action action.Ustack = codes "ustack"
 name_of_action action.Exit = codes "exit"
+name_of_action action.Speculate = codes "speculate"
+name_of_action action.Commit = codes "commit"
+name_of_action action.Discard = codes "discard"
 
 abbrev pub name_of_function : Function → List ℕ
 name_of_function function.Count = codes "count"
@@ -38,6 +43,10 @@ name_of_destructive destructive.System = codes "system"
 name_of_destructive destructive.Breakpoint = codes "breakpoint"
 name_of_destructive destructive.Panic = codes "panic"
 name_of_destructive destructive.Chill = codes "chill"
+
+abbrev pub name_of_keyword : Keyword → List ℕ
+name_of_keyword keyword.ThreadLocal = codes "self"
+name_of_keyword keyword.Speculation = codes "speculation"
 
 abbrev pub name_of_number : NumberVariable → List ℕ
 name_of_number number.Arg0 = codes "arg0"
@@ -70,14 +79,21 @@ abbrev pub name_of_word : Word → Option (List ℕ)
 name_of_word (word.Action a) = Some (name_of_action a)
 name_of_word (word.Function f) = Some (name_of_function f)
 name_of_word (word.Destructive d) = Some (name_of_destructive d)
+name_of_word (word.Keyword k) = Some (name_of_keyword k)
 name_of_word (word.Number v) = Some (name_of_number v)
 name_of_word (word.Text v) = Some (name_of_text v)
 name_of_word (word.Unknown kept) = None
 
--- what is kept of an unknown name: its bytes, or that there are too many for a short text
+-- the bytes of an identifier, whatever it is a name of; none where they are too many for a name
+abbrev pub word_bytes : Word → Option (List ℕ)
+word_bytes (word.Unknown kept) = kept
+word_bytes known = name_of_word known
+
+-- What is kept of an unknown name: its bytes, or that they are none that a name has. An identifier's are none where they are too
+-- many, and only there.
 abbrev pub IsKeptName : List ℕ → Option (List ℕ) → Type 0
-IsKeptName name (Some bytes) = (bytes ≡ name) × (length name ≤ short_text_max)
-IsKeptName name None = short_text_max < length name
+IsKeptName name (Some bytes) = (bytes ≡ name) × IsName name
+IsKeptName name None = IsName name → ⊥
 
 -- The identifier is the known word of this name, or unknown where no known word has it.
 abbrev pub IsWord : List ℕ → Word → Type 0

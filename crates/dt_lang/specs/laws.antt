@@ -24,6 +24,8 @@ pub mod ClauseSound
 pub mod ClauseComplete
 pub mod ClauseViable
 pub mod ClauseLaws
+pub mod Ends
+pub mod KindLaws
 pub mod TakesLaws
 pub mod TooLongLaws
 pub mod RangeLaws
@@ -33,3 +35,4 @@ pub mod TextLaws
 pub mod SomeReading
 pub mod WrittenTokens
 pub mod WrittenPrograms
+pub mod TogetherLaws

@@ -7,5 +7,6 @@ pub mod ClauseState
 pub mod PlaceView
 pub mod ReaderView
 pub mod Cause
+pub mod KindView
 pub mod ShownCause
 pub mod Fits

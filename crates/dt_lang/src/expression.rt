@@ -2,13 +2,13 @@
 ghost use Rattle.std.specs.Prelude.{◌≡◌, IfOk, option_map, true};
 ghost use Rattle.dt_expr.specs.Form.{form_of};
 ghost use Rattle.dt_lang.specs.Expression.{prefix_of, comparison_of, text_token};
-ghost use Rattle.dt_lang.specs.machine.ExpressionState.{nothing, whole, lone, compares, state, operator_in, begin_sign, begin_text, begin, leave, follow_sign, follow, compare, compare_with, close, start, step, done, wants, Goes};
+ghost use Rattle.dt_lang.specs.machine.ExpressionState.{nothing, self_read, arrow_read, whole, lone, compares, state, operator_in, begin_sign, begin_text, begin, point, name_variable, leave, follow_sign, follow, compare, compare_with, close, start, step, done, wants, is_long_name_at, Goes};
 ghost use Rattle.dt_lang.specs.machine.ExpressionView.{pending_forms, hand_of, state_of};
 ghost use Rattle.dt_program.specs.Clause.{form_of_argument};
 
 use crate::pending::{EQUALITY, OPERAND, PendingOperator, PendingStack, binding_of};
 use crate::token::{Sign, Token};
-use crate::word::Word;
+use crate::word::{Keyword, Word};
 use dt_expr::{BinaryOp, Expr, Text, TextOp, UnaryOp};
 use dt_program::Argument;
 use std::alloc::{AllocError, Global};
@@ -19,6 +19,10 @@ use std::mem;
 pub(crate) enum Hand {
     /// Nothing yet: an operand stands next.
     Nothing,
+    /// `self`: `->` stands next.
+    ThreadLocal,
+    /// `self` and `->`: a variable's name stands next.
+    Arrow,
     /// An expression that binds at least so tightly.
     Whole(u8, Expr),
     /// A text.
@@ -135,6 +139,13 @@ impl ExpressionReader {
         matches!(self.hand, Hand::Nothing | Hand::Compares(..))
     }
 
+    /// Whether a token is a variable's name with too many bytes.
+    pub(crate) fn is_long_name(&self, token: &Token) -> bool
+        ensures { result ≡ is_long_name_at (hand_of self.now.hand) token.now }
+    {
+        matches!(self.hand, Hand::Arrow) && token.is_long_word()
+    }
+
     /// Reads a token and says so, or that it doesn't go on with what was read: then nothing is changed.
     #[tactic(auto, unfolding(crate::specs::machine::ExpressionState::step))]
     pub(crate) fn push(&mut self, alloc: Global, token: &Token) -> Result<bool, AllocError>
@@ -143,6 +154,8 @@ impl ExpressionReader {
     {
         match mem::replace(&mut self.hand, Hand::Nothing) {
             Hand::Nothing => self.begin_operand(token),
+            Hand::ThreadLocal => Ok(self.point(token)),
+            Hand::Arrow => Ok(self.name_variable(token)),
             Hand::Whole(level, form) => self.follow(alloc, level, form, token),
             Hand::Lone(text) => Ok(self.compare(text, token)),
             Hand::Compares(op, left) => Ok(self.compare_with(op, left, token)),
@@ -169,7 +182,7 @@ impl ExpressionReader {
                     Ok(None)
                 }
             }
-            Hand::Nothing | Hand::Compares(_, _) => Ok(None),
+            Hand::Nothing | Hand::ThreadLocal | Hand::Arrow | Hand::Compares(_, _) => Ok(None),
         }
     }
 
@@ -190,8 +203,46 @@ impl ExpressionReader {
             }
             Token::Word(Word::Text(variable)) => Ok(self.begin_text(Text::Variable(*variable))),
             Token::String(text) => Ok(self.begin_text(Text::Literal(*text))),
+            Token::Word(Word::Keyword(Keyword::ThreadLocal)) => {
+                self.hand = Hand::ThreadLocal;
+                Ok(true)
+            }
             Token::Sign(sign) => self.begin_sign(*sign),
             _ => Ok(false),
+        }
+    }
+
+    /// Reads a token after `self`.
+    fn point(&mut self, token: &Token) -> bool
+        ensures { Goes (state self.old.divides (pending_forms self.old.pending) self_read)
+            (point self.old.divides (pending_forms self.old.pending) token.now) result (state_of self.new) }
+    {
+        match token {
+            Token::Sign(Sign::Arrow) => {
+                self.hand = Hand::Arrow;
+                true
+            }
+            _ => {
+                self.hand = Hand::ThreadLocal;
+                false
+            }
+        }
+    }
+
+    /// Reads a token after `self` and `->`: any identifier names a variable.
+    fn name_variable(&mut self, token: &Token) -> bool
+        ensures { Goes (state self.old.divides (pending_forms self.old.pending) arrow_read)
+            (name_variable self.old.divides (pending_forms self.old.pending) token.now) result (state_of self.new) }
+    {
+        match token.name() {
+            Some(name) => {
+                self.hand = Hand::Whole(OPERAND, Expr::Local(name));
+                true
+            }
+            None => {
+                self.hand = Hand::Arrow;
+                false
+            }
         }
     }
 

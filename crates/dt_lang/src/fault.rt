@@ -25,6 +25,8 @@ pub enum Why {
     TooLong,
     /// The bounds make no levels, or too many.
     Range,
+    /// An earlier statement of the clause excludes the one that begins there.
+    Spec,
 }
 
 impl Why {
@@ -39,6 +41,7 @@ impl Why {
             Why::Variable => "Variable",
             Why::TooLong => "TooLong",
             Why::Range => "Range",
+            Why::Spec => "Spec",
         }
     }
 }
@@ -78,6 +81,9 @@ pub enum Limit {
     /// Bytes of an aggregation's name.
     #[error("an aggregation's name of more than 31 bytes")]
     NameBytes,
+    /// Bytes of a thread-local variable's name.
+    #[error("a variable's name of more than 31 bytes")]
+    LocalBytes,
 }
 
 /// What is wrong with a token, with what was found there.
@@ -95,6 +101,8 @@ pub enum Flaw {
     TooLong(Limit),
     /// It ends an `lquantize` whose bounds make no levels, or too many: the first rule that they break.
     Range(BoundsFault),
+    /// It begins a statement that an earlier one of its clause excludes.
+    Spec,
 }
 
 impl Flaw {
@@ -109,6 +117,7 @@ impl Flaw {
             Flaw::Variable => Why::Variable,
             Flaw::TooLong(_) => Why::TooLong,
             Flaw::Range(_) => Why::Range,
+            Flaw::Spec => Why::Spec,
         }
     }
 }

@@ -10,6 +10,7 @@ mod byte_class;
 mod expression;
 mod expression_laws;
 mod fault;
+mod kind;
 mod lexer;
 mod mode;
 mod number;
@@ -30,6 +31,8 @@ pub use dt_program::{
 };
 pub use expression_laws::{one_argument, one_expression};
 pub use fault::{Flaw, LangFault, Limit, Why};
-pub use parse::{ParseProgram, one_reading, one_refusal, read_is_in_bounds, some_reading};
+pub use parse::{
+    ParseProgram, one_reading, one_refusal, read_is_in_bounds, read_stands_together, some_reading,
+};
 pub use token::{Sign, Token};
-pub use word::{Action, Destructive, Function, Word, one_word};
+pub use word::{Action, Destructive, Function, Keyword, Word, one_word};

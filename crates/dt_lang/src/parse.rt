@@ -4,8 +4,10 @@ ghost use Rattle.dt_lang.specs.machine.ClauseState.{program_start};
 ghost use Rattle.dt_program.specs.Program.{ClauseForm, form_of_program};
 ghost use Rattle.dt_program.specs.Written.{IsWrittenProgram};
 ghost use Rattle.dt_lang.specs.machine.ReaderView.{AnsweredText, program_state_of};
+ghost use Rattle.std.specs.List.{AllByRecursion};
 ghost use Rattle.dt_lang.specs.Reads.{IsRefusedProgram, Reading, Reads, program};
 ghost use Rattle.dt_lang.specs.Refused.{Cause, because, destroys};
+ghost use Rattle.dt_lang.specs.Together.{StandTogether};
 ghost use Rattle.dt_lang.specs.declared.fault.Flaw.{Flaw};
 ghost use Rattle.dt_lang.specs.declared.word.Destructive.{Destructive};
 
@@ -112,4 +114,10 @@ pub fn some_reading()
 /// that are written in them.
 pub fn read_is_in_bounds()
     ensures { (text : List ℕ) (clauses : List ClauseForm) → Reads text (program clauses) → IsWrittenProgram clauses }
+{}
+
+/// Law: in a program that is read no statement of a clause excludes a later one.
+pub fn read_stands_together()
+    ensures { (text : List ℕ) (clauses : List ClauseForm) → Reads text (program clauses)
+        → AllByRecursion (λ (clause : ClauseForm). StandTogether clause.statements) clauses }
 {}

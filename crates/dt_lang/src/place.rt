@@ -3,14 +3,16 @@ ghost use Rattle.std.specs.Prelude.{◌≡◌, ◌≤◌, option_map, vec_len};
 ghost use Rattle.dt_expr.specs.Form.{form_of};
 ghost use Rattle.dt_lang.specs.machine.Cause.{keys_full, limit_within};
 ghost use Rattle.dt_lang.specs.Grammar.{call_of, statement_of};
+ghost use Rattle.dt_lang.specs.machine.ClauseState.{draws};
 ghost use Rattle.dt_lang.specs.machine.PlaceView.{key_forms, slot_form};
 ghost use Rattle.dt_program.specs.Clause.{aggregate, form_of_argument, form_of_call, form_of_statement};
 ghost use Rattle.dt_lang.specs.Stand.{divides_in};
 
 use crate::fault::Limit;
+use crate::token::Token;
 use crate::word::{Action, Function};
 use dt_expr::Expr;
-use dt_names::ShortText;
+use dt_names::{Name, ShortText};
 use dt_program::{AggregationUse, Argument, Call, KEYS_MAX, Statement, TOKENS_MAX};
 
 /// An aggregation's name and keys.
@@ -45,6 +47,8 @@ pub(crate) enum Slot {
     Key(Target),
     /// What an aggregating function is given.
     Value(Target, Function),
+    /// What the thread-local variable of this name is given.
+    Assignment(Name),
 }
 
 impl Slot {
@@ -66,6 +70,13 @@ impl Slot {
         } else {
             None
         }
+    }
+
+    /// Whether a token is `speculation`, right after the `=` of a variable.
+    pub(crate) fn draws(&self, count: usize, token: &Token) -> bool
+        ensures { result ≡ draws (slot_form self.now) count token.now }
+    {
+        matches!(self, Slot::Assignment(_)) && count == 0 && token.is_speculation()
     }
 
     /// Whether a further key would be one too many.
@@ -118,6 +129,14 @@ pub(crate) enum StatementPlace {
     Negating(Levels),
     /// A bound.
     Bounded(Levels, i64),
+    /// `self`.
+    ThreadLocal,
+    /// The `->` after it.
+    Arrow,
+    /// A thread-local variable.
+    Variable(Name),
+    /// The `speculation` that a variable is given.
+    Drawing(Name),
 }
 
 /// What the last token was, and so what stands next.
@@ -148,6 +167,9 @@ pub(crate) fn statement_of(action: Action, argument: Argument) -> Option<Stateme
     match (action, argument) {
         (Action::Trace, argument) => Some(Statement::Trace(argument)),
         (Action::Exit, Argument::Number(status)) => Some(Statement::Exit(status)),
+        (Action::Speculate, Argument::Number(identifier)) => Some(Statement::Speculate(identifier)),
+        (Action::Commit, Argument::Number(identifier)) => Some(Statement::Commit(identifier)),
+        (Action::Discard, Argument::Number(identifier)) => Some(Statement::Discard(identifier)),
         // a stack's frames are no expression, and a text is only traced
         _ => None,
     }

@@ -1,10 +1,10 @@
 //! The reader of programs: a token at a time.
 ghost use Rattle.std.specs.Prelude.{◌≡◌, ◌≤◌, ◌<◌, IfOk, None, Some, false, if◌then◌else◌, option_map, [], ◌∷◌, ◌++◌, vec_len};
 ghost use Rattle.dt_expr.specs.Form.{form_of};
-ghost use Rattle.dt_lang.specs.machine.ClauseState.{program_step, inside_step_from, inside, bounded, bounding, from_bounded, ended, entered, finished, from_applied, from_assigned, from_before_statement, from_bounding, from_called, from_closing, from_described, from_after_statement, from_stack_opened, from_guarded, from_keyed, from_listed, from_named, from_negating, from_outside, headed, outside, shut, shut_key, shut_predicate, shut_value, program_at, program_start, from_within, shut_given};
-ghost use Rattle.dt_lang.specs.machine.Cause.{out_of_range_at, is_one_more, too_long_at};
-ghost use Rattle.dt_lang.specs.machine.ShownCause.{AnswersToken, ShownOutcome, cause_of_refusal, shown_at};
-ghost use Rattle.dt_lang.specs.machine.Fits.{Fits, FitsClause, FitsInside, FitsWithin, SlotHasRoom};
+ghost use Rattle.dt_lang.specs.machine.ClauseState.{from_self, from_arrow, from_variable, from_drawing, shut_assignment, begin_draw, program_step, inside_step_from, inside, bounded, bounding, from_bounded, ended, entered, finished, from_applied, from_assigned, from_before_statement, from_bounding, from_called, from_closing, from_described, from_after_statement, from_stack_opened, from_guarded, from_keyed, from_listed, from_named, from_negating, from_outside, headed, outside, shut, shut_key, shut_predicate, shut_value, program_at, program_start, from_within, shut_given};
+ghost use Rattle.dt_lang.specs.machine.Cause.{out_of_range_at};
+ghost use Rattle.dt_lang.specs.machine.ShownCause.{AnswersToken, ShownOutcome};
+ghost use Rattle.dt_lang.specs.machine.Fits.{Fits, FitsClause, FitsInside, FitsStatement, FitsWithin, SlotHasRoom};
 ghost use Rattle.dt_lang.specs.machine.ExpressionView.{state_of};
 ghost use Rattle.dt_lang.specs.machine.PlaceView.{bound_of, inside_form, key_forms, place_form, slot_form};
 ghost use Rattle.dt_program.specs.Clause.{aggregate, form_of_argument, lquantize, form_of_statement, number};
@@ -13,20 +13,18 @@ ghost use Rattle.dt_lang.specs.machine.ReaderView.{Leads, clause_of, clauses_of,
 ghost use Rattle.dt_program.specs.Bounds.{bounds_fault};
 ghost use Rattle.dt_program.specs.declared.clause.TheConstants.{DESCRIPTIONS_MAX, KEYS_MAX, STATEMENTS_MAX};
 
+mod refusing;
+
 use crate::expression::ExpressionReader;
-use crate::fault::{Flaw, Limit, TokenRefusal};
+use crate::fault::{Flaw, TokenRefusal};
 use crate::place::{
     Bound, Levels, ReaderPlace, Slot, StatementPlace, Target, call_of, statement_of,
 };
-use crate::shown_cause::{shown_assigned, shown_before_statement, shown_elsewhere, shown_operand};
 use crate::token::{Sign, Token};
-use crate::word::{Action, Function, Word};
+use crate::word::{Action, Function, Keyword, Word};
 use dt_expr::Expr;
-use dt_names::ShortText;
-use dt_program::{
-    Argument, CLAUSES_MAX, Call, Clause, DESCRIPTIONS_MAX, Description, Frames, Program,
-    STATEMENTS_MAX, Statement, checked_bounds,
-};
+use dt_names::{Name, ShortText};
+use dt_program::{Argument, Call, Clause, Description, Frames, Program, Statement, checked_bounds};
 use std::alloc::{AllocError, Global};
 use std::mem;
 
@@ -214,6 +212,9 @@ impl ProgramReader {
             Token::Aggregation(name) => self.place = ReaderPlace::Inside(StatementPlace::Named(
                 *name,
             )),
+            Token::Word(Word::Keyword(Keyword::ThreadLocal)) => self.place = ReaderPlace::Inside(
+                StatementPlace::ThreadLocal,
+            ),
             // nothing else begins a statement or ends the clause
             _ => return Ok(false),
         }
@@ -389,26 +390,53 @@ impl ProgramReader {
             return Ok(true);
         }
         match self.expression.finish(alloc)? {
-            Some(argument) => self.shut(slot, argument, token),
-            None => Ok(false),
+            Some(argument) => self.shut(alloc, slot, argument, token),
+            None => Ok(self.begin_draw(slot, count, token)),
+        }
+    }
+
+    /// Reads `speculation` where a variable's value begins.
+    fn begin_draw(&mut self, slot: Slot, count: usize, token: &Token) -> bool
+        ensures { Leads (begin_draw (clauses_of self.old) (clause_of self.old) (slot_form slot) count token.now) result
+            (program_state_of self.new) }
+    {
+        match slot {
+            Slot::Assignment(name) if count == 0 && token.is_speculation() => {
+                self.place = ReaderPlace::Inside(StatementPlace::Drawing(name));
+                true
+            }
+            _ => false,
         }
     }
 
     /// Ends what was read for a slot.
-    fn shut(&mut self, slot: Slot, argument: Argument, token: &Token) -> Result<bool, AllocError>
-        requires { SlotHasRoom (slot_form slot) }
+    fn shut(
+        &mut self,
+        alloc: Global,
+        slot: Slot,
+        argument: Argument,
+        token: &Token,
+    ) -> Result<bool, AllocError>
+        requires { SlotHasRoom (clauses_of self.old) (clause_of self.old) (slot_form slot) }
         ensures { IfOk result (λ on. Leads
             (shut (clauses_of self.old) (clause_of self.old) (slot_form slot) token.now (form_of_argument argument)) on
             (program_state_of self.new)) }
     {
-        match (slot, argument) {
-            (Slot::Predicate, Argument::Number(value)) => Ok(self.shut_predicate(value, token)),
-            (Slot::Given(action), argument) => self.shut_given(action, argument, token),
-            (Slot::Key(target), argument) => self.shut_key(target, argument, token),
-            (Slot::Value(target, function), Argument::Number(value)) => {
-                self.shut_value(target, function, value, token)
-            }
-            _ => Ok(false),
+        match slot {
+            Slot::Predicate => match argument {
+                Argument::Number(value) => Ok(self.shut_predicate(value, token)),
+                Argument::Text(_) => Ok(false),
+            },
+            Slot::Given(action) => self.shut_given(action, argument, token),
+            Slot::Key(target) => self.shut_key(target, argument, token),
+            Slot::Value(target, function) => match argument {
+                Argument::Number(value) => self.shut_value(target, function, value, token),
+                Argument::Text(_) => Ok(false),
+            },
+            Slot::Assignment(name) => match argument {
+                Argument::Number(value) => self.shut_assignment(alloc, name, value, token),
+                Argument::Text(_) => Ok(false),
+            },
         }
     }
 
@@ -504,6 +532,79 @@ impl ProgramReader {
                 Ok(true)
             }
             _ => Ok(false),
+        }
+    }
+
+    /// Ends a variable's value, and with it the statement.
+    fn shut_assignment(
+        &mut self,
+        alloc: Global,
+        name: Name,
+        value: Expr,
+        token: &Token,
+    ) -> Result<bool, AllocError>
+        requires { FitsStatement (clauses_of self.old) (clause_of self.old) }
+        ensures { IfOk result (λ on. Leads
+            (shut_assignment (clauses_of self.old) (clause_of self.old) name (number (form_of value)) token.now) on
+            (program_state_of self.new)) }
+    {
+        self.statements.push(Statement::Assign(name, value))?;
+        self.from_after_statement(alloc, token)
+    }
+
+    /// Reads a token after `self`.
+    fn from_self(&mut self, token: &Token) -> bool
+        ensures { Leads (from_self (clauses_of self.old) (clause_of self.old) token.now) result
+            (program_state_of self.new) }
+    {
+        match token {
+            Token::Sign(Sign::Arrow) => {
+                self.place = ReaderPlace::Inside(StatementPlace::Arrow);
+                true
+            }
+            _ => false,
+        }
+    }
+
+    /// Reads a token after `self` and `->`: any identifier names a variable.
+    fn from_arrow(&mut self, token: &Token) -> bool
+        ensures { Leads (from_arrow (clauses_of self.old) (clause_of self.old) token.now) result
+            (program_state_of self.new) }
+    {
+        match token.name() {
+            Some(name) => {
+                self.place = ReaderPlace::Inside(StatementPlace::Variable(name));
+                true
+            }
+            None => false,
+        }
+    }
+
+    /// Reads a token after a thread-local variable.
+    fn from_variable(&mut self, name: Name, token: &Token) -> bool
+        ensures { Leads (from_variable (clauses_of self.old) (clause_of self.old) name token.now) result
+            (program_state_of self.new) }
+    {
+        match token {
+            Token::Sign(Sign::Equal) => {
+                self.enter(Slot::Assignment(name));
+                true
+            }
+            _ => false,
+        }
+    }
+
+    /// Reads a token after the `speculation` that a variable is given.
+    fn from_drawing(&mut self, name: Name, token: &Token) -> bool
+        ensures { Leads (from_drawing (clauses_of self.old) (clause_of self.old) name token.now) result
+            (program_state_of self.new) }
+    {
+        match token {
+            Token::Sign(Sign::OpenParen) => {
+                self.place = ReaderPlace::Inside(StatementPlace::Closing(Statement::Draw(name)));
+                true
+            }
+            _ => false,
         }
     }
 
@@ -616,61 +717,6 @@ impl ProgramReader {
         }
     }
 
-    /// The limit that a token passes, as the first of one thing more than there may be, or as one token too many. If it
-    /// passes none, nothing is changed.
-    fn exceeds(&mut self, alloc: Global, token: &Token) -> Result<Option<Limit>, AllocError>
-        ensures told { IfOk result (λ over.
-            too_long_at (clauses_of self.old) (clause_of self.old)
-            (place_form (state_of self.old.expression) self.old.place) token.now ≡ over) }
-        ensures kept { IfOk result (λ over. over ≡ None
-            → program_state_of self.new ≡ program_state_of self.old) }
-    {
-        match &self.place {
-            ReaderPlace::Outside if token.is_description() && self.clauses.len() >= CLAUSES_MAX => {
-                Ok(Some(Limit::Clauses))
-            }
-            ReaderPlace::Listed
-                if token.is_description() && self.descriptions.len() >= DESCRIPTIONS_MAX => {
-                Ok(Some(Limit::Descriptions))
-            }
-            ReaderPlace::BeforeStatement
-                if self.statements.len() >= STATEMENTS_MAX && token.is_for_statement() => {
-                Ok(Some(Limit::Statements))
-            }
-            ReaderPlace::Within { slot, count } => match slot.limit_within(*count) {
-                Some(limit) => {
-                    let over = self.is_one_more(alloc, token)?;
-                    Ok(if over { Some(limit) } else { None })
-                }
-                None => Ok(None),
-            },
-            _ => Ok(None),
-        }
-    }
-
-    /// Whether a token is one more of what is read for a slot. If it isn't, nothing is changed.
-    fn is_one_more(&mut self, alloc: Global, token: &Token) -> Result<bool, AllocError>
-        ensures told { IfOk result (λ on. is_one_more (state_of self.old.expression) token.now ≡ on) }
-        ensures kept { IfOk result (λ on. on ≡ false → program_state_of self.new ≡ program_state_of self.old) }
-    {
-        let wants = self.expression.wants_operand();
-        let on = self.expression.push(alloc, token)?;
-        Ok(on || (token.is_operand() && wants))
-    }
-
-    /// The cause that a token shows at its place, before it is known whether it goes on.
-    fn shown(&self, token: &Token) -> Option<TokenRefusal>
-        ensures { option_map cause_of_refusal result
-            ≡ shown_at (place_form (state_of self.now.expression) self.now.place) token.now }
-    {
-        match &self.place {
-            ReaderPlace::BeforeStatement => shown_before_statement(token),
-            ReaderPlace::Inside(StatementPlace::Assigned(_)) => shown_assigned(token),
-            ReaderPlace::Within { .. } if self.expression.wants_operand() => shown_operand(token),
-            _ => shown_elsewhere(token),
-        }
-    }
-
     /// Reads a token that is not one too many and shows no cause at its place; or says why it is refused.
     #[tactic(auto, unfolding(crate::specs::machine::ClauseState::program_step))]
     fn step(&mut self, alloc: Global, token: Token) -> Result<Option<Flaw>, AllocError>
@@ -726,6 +772,10 @@ impl ProgramReader {
             StatementPlace::Bounding(levels) => Ok(stuck_unless(self.from_bounding(levels, token))),
             StatementPlace::Negating(levels) => Ok(stuck_unless(self.from_negating(levels, token))),
             StatementPlace::Bounded(levels, last) => self.from_bounded(levels, last, token),
+            StatementPlace::ThreadLocal => Ok(stuck_unless(self.from_self(token))),
+            StatementPlace::Arrow => Ok(stuck_unless(self.from_arrow(token))),
+            StatementPlace::Variable(name) => Ok(stuck_unless(self.from_variable(name, token))),
+            StatementPlace::Drawing(name) => Ok(stuck_unless(self.from_drawing(name, token))),
         }
     }
 }

@@ -4,7 +4,7 @@ ghost use Rattle.dt_lang.specs.machine.ShownCause.{cause_of_refusal, shown_assig
 
 use crate::fault::{Flaw, TokenRefusal};
 use crate::token::Token;
-use crate::word::Word;
+use crate::word::{Keyword, Word};
 
 /// Where no name and no operand stands.
 pub(crate) fn shown_elsewhere(token: &Token) -> Option<TokenRefusal>
@@ -22,7 +22,7 @@ pub(crate) fn shown_before_statement(token: &Token) -> Option<TokenRefusal>
 {
     match token {
         Token::Word(Word::Destructive(what)) => Some(TokenRefusal::Destructive(*what)),
-        Token::Word(Word::Action(_)) => None,
+        Token::Word(Word::Action(_) | Word::Keyword(Keyword::ThreadLocal)) => None,
         Token::Word(_) => Some(TokenRefusal::Flaw(Flaw::Action)),
         _ => shown_elsewhere(token),
     }
@@ -44,7 +44,7 @@ pub(crate) fn shown_operand(token: &Token) -> Option<TokenRefusal>
     ensures { option_map cause_of_refusal result ≡ shown_operand token.now }
 {
     match token {
-        Token::Word(Word::Number(_) | Word::Text(_)) => None,
+        Token::Word(Word::Number(_) | Word::Text(_) | Word::Keyword(Keyword::ThreadLocal)) => None,
         Token::Word(_) => Some(TokenRefusal::Flaw(Flaw::Variable)),
         _ => shown_elsewhere(token),
     }

@@ -8,7 +8,7 @@ ghost use Rattle.dt_lang.specs.declared.token.Sign.{Sign};
 use crate::token::Sign;
 
 /// The signs of two bytes.
-const PAIRS: [Sign; 9] = [
+const PAIRS: [Sign; 10] = [
     Sign::OrOr,
     Sign::CaretCaret,
     Sign::AndAnd,
@@ -18,6 +18,7 @@ const PAIRS: [Sign; 9] = [
     Sign::GreaterEqual,
     Sign::EqualEqual,
     Sign::BangEqual,
+    Sign::Arrow,
 ];
 
 /// The signs of one byte.
@@ -85,6 +86,7 @@ pub(crate) fn spelling(sign: Sign) -> &'static [u8]
         Sign::GreaterEqual => b">=",
         Sign::EqualEqual => b"==",
         Sign::BangEqual => b"!=",
+        Sign::Arrow => b"->",
         Sign::Or => b"|",
         Sign::Caret => b"^",
         Sign::And => b"&",

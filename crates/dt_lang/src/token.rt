@@ -1,10 +1,11 @@
 //! The tokens of the clause language.
 ghost use Rattle.std.specs.Prelude.{◌≡◌};
 ghost use Rattle.dt_lang.specs.machine.Cause.{is_description, is_for_statement};
-ghost use Rattle.dt_lang.specs.machine.ExpressionState.{is_operand};
+ghost use Rattle.dt_lang.specs.machine.ClauseState.{is_speculation};
+ghost use Rattle.dt_lang.specs.machine.ExpressionState.{is_operand, is_long_word, name_of_token};
 
-use crate::word::Word;
-use dt_names::ShortText;
+use crate::word::{Keyword, Word};
+use dt_names::{Name, ShortText};
 use dt_program::{Description, DescriptionFault};
 
 /// A sign of the language. (illumos Dynamic Tracing Guide, "Types, Operators and Expressions" and "Program Structure".)
@@ -28,6 +29,8 @@ pub enum Sign {
     EqualEqual,
     /// `!=`
     BangEqual,
+    /// `->`
+    Arrow,
     /// `|`
     Or,
     /// `^`
@@ -109,5 +112,29 @@ impl Token {
         ensures { result ≡ is_operand self.now }
     {
         matches!(self, Token::Word(_) | Token::Number(_) | Token::String(_))
+    }
+
+    /// Whether this is `speculation`.
+    pub(crate) fn is_speculation(&self) -> bool
+        ensures { result ≡ is_speculation self.now }
+    {
+        matches!(self, Token::Word(Word::Keyword(Keyword::Speculation)))
+    }
+
+    /// Whether this is an identifier with more bytes than a name holds.
+    pub(crate) fn is_long_word(&self) -> bool
+        ensures { result ≡ is_long_word self.now }
+    {
+        matches!(self, Token::Word(Word::Unknown(None)))
+    }
+
+    /// The name of a variable that this is after `->`.
+    pub(crate) fn name(&self) -> Option<Name>
+        ensures { result ≡ name_of_token self.now }
+    {
+        match self {
+            Token::Word(word) => word.bytes(),
+            _ => None,
+        }
     }
 }

@@ -1,12 +1,14 @@
 //! What identifiers mean where they may stand.
-ghost use Rattle.std.specs.Prelude.{◌≡◌, ◌≢◌, ℕ, ◌↔◌, List, Some, IsTrue, IfSome, IfNone};
+ghost use Rattle.std.specs.Prelude.{◌≡◌, ◌≢◌, ℕ, ◌<◌, ◌↔◌, List, length, Some, None, IsTrue, IfSome, IfNone};
 ghost use Rattle.std.specs.List.{All};
+ghost use Rattle.dt_names.specs.Limits.{name_max};
+ghost use Rattle.dt_lang.specs.Lexeme.{IsIdentifier};
 ghost use Rattle.dt_lang.specs.declared.word.Word.{Word};
 ghost use Rattle.dt_lang.specs.machine.KnownWord.{as_word};
-ghost use Rattle.dt_lang.specs.Word.{name_of_action, name_of_function, name_of_destructive, name_of_number, name_of_text, name_of_word, IsKeptName, IsWord};
+ghost use Rattle.dt_lang.specs.Word.{name_of_action, name_of_function, name_of_destructive, name_of_keyword, name_of_number, name_of_text, name_of_word, word_bytes, IsKeptName, IsWord};
 
 use dt_expr::{NumberVariable, TextVariable};
-use dt_names::ShortText;
+use dt_names::Name;
 use std::fmt;
 
 /// A statement's name. (illumos Dynamic Tracing Guide, "Actions and Subroutines".)
@@ -20,6 +22,12 @@ pub enum Action {
     Ustack,
     /// `exit`
     Exit,
+    /// `speculate`
+    Speculate,
+    /// `commit`
+    Commit,
+    /// `discard`
+    Discard,
 }
 
 /// An aggregating function's name. (illumos Dynamic Tracing Guide, "Aggregations".)
@@ -63,6 +71,16 @@ pub enum Destructive {
     Chill,
 }
 
+/// A word that is part of a variable or of a statement. (illumos Dynamic Tracing Guide, "Variables" and "Speculative
+/// Tracing".)
+#[derive(Clone, Copy, Debug, PartialEq, Eq)]
+pub enum Keyword {
+    /// `self`: a thread-local variable begins with it.
+    ThreadLocal,
+    /// `speculation`: a variable may be given an identifier that is drawn.
+    Speculation,
+}
+
 /// What an identifier is a name of.
 #[derive(Clone, Copy, PartialEq, Eq)]
 pub enum Word {
@@ -72,12 +90,14 @@ pub enum Word {
     Function(Function),
     /// A destructive action.
     Destructive(Destructive),
+    /// Part of a variable or of a statement.
+    Keyword(Keyword),
     /// A variable that names a number.
     Number(NumberVariable),
     /// A variable that names a text.
     Text(TextVariable),
-    /// Nothing that the language knows: the name, where it has no more bytes than a [`ShortText`] holds.
-    Unknown(Option<ShortText>),
+    /// Nothing that the language knows: the name, where it has no more bytes than a [`Name`] holds.
+    Unknown(Option<Name>),
 }
 
 /// A word that the language knows.
@@ -86,6 +106,7 @@ pub(crate) enum KnownWord {
     Action(Action),
     Function(Function),
     Destructive(Destructive),
+    Keyword(Keyword),
     Number(NumberVariable),
     Text(TextVariable),
 }
@@ -100,6 +121,9 @@ impl Action {
             Action::Stack => "stack",
             Action::Ustack => "ustack",
             Action::Exit => "exit",
+            Action::Speculate => "speculate",
+            Action::Commit => "commit",
+            Action::Discard => "discard",
         }
     }
 }
@@ -150,6 +174,18 @@ impl fmt::Display for Destructive {
     }
 }
 
+impl Keyword {
+    /// The word, as programs write it.
+    pub fn name(self) -> &'static str
+        ensures { result.now ≡ name_of_keyword self }
+    {
+        match self {
+            Keyword::ThreadLocal => "self",
+            Keyword::Speculation => "speculation",
+        }
+    }
+}
+
 /// The name of a variable that names a number.
 fn name_of_number(variable: NumberVariable) -> &'static str
     ensures { result.now ≡ name_of_number variable }
@@ -189,11 +225,14 @@ fn name_of_text(variable: TextVariable) -> &'static str
 }
 
 /// All words that the language knows.
-const WORDS: [KnownWord; 41] = [
+const WORDS: [KnownWord; 46] = [
     KnownWord::Action(Action::Trace),
     KnownWord::Action(Action::Stack),
     KnownWord::Action(Action::Ustack),
     KnownWord::Action(Action::Exit),
+    KnownWord::Action(Action::Speculate),
+    KnownWord::Action(Action::Commit),
+    KnownWord::Action(Action::Discard),
     KnownWord::Function(Function::Count),
     KnownWord::Function(Function::Sum),
     KnownWord::Function(Function::Avg),
@@ -209,6 +248,8 @@ const WORDS: [KnownWord; 41] = [
     KnownWord::Destructive(Destructive::Breakpoint),
     KnownWord::Destructive(Destructive::Panic),
     KnownWord::Destructive(Destructive::Chill),
+    KnownWord::Keyword(Keyword::ThreadLocal),
+    KnownWord::Keyword(Keyword::Speculation),
     KnownWord::Number(NumberVariable::Arg0),
     KnownWord::Number(NumberVariable::Arg1),
     KnownWord::Number(NumberVariable::Arg2),
@@ -243,6 +284,21 @@ impl Word {
             None => Word::Unknown(kept(name)),
         }
     }
+
+    /// The bytes of the identifier, whatever it is a name of, where they are no more than a [`Name`] holds.
+    pub(crate) fn bytes(self) -> Option<Name>
+        ensures { result ≡ word_bytes self }
+    {
+        match self {
+            Word::Action(action) => Name::new(action.name().as_bytes()),
+            Word::Function(function) => Name::new(function.name().as_bytes()),
+            Word::Destructive(destructive) => Name::new(destructive.name().as_bytes()),
+            Word::Keyword(keyword) => Name::new(keyword.name().as_bytes()),
+            Word::Number(variable) => Name::new(name_of_number(variable).as_bytes()),
+            Word::Text(variable) => Name::new(name_of_text(variable).as_bytes()),
+            Word::Unknown(kept) => kept,
+        }
+    }
 }
 
 impl KnownWord {
@@ -254,6 +310,7 @@ impl KnownWord {
             KnownWord::Action(action) => Word::Action(action),
             KnownWord::Function(function) => Word::Function(function),
             KnownWord::Destructive(destructive) => Word::Destructive(destructive),
+            KnownWord::Keyword(keyword) => Word::Keyword(keyword),
             KnownWord::Number(variable) => Word::Number(variable),
             KnownWord::Text(variable) => Word::Text(variable),
         }
@@ -281,6 +338,7 @@ impl KnownWord {
             KnownWord::Action(action) => action.name(),
             KnownWord::Function(function) => function.name(),
             KnownWord::Destructive(destructive) => destructive.name(),
+            KnownWord::Keyword(keyword) => keyword.name(),
             KnownWord::Number(variable) => name_of_number(variable),
             KnownWord::Text(variable) => name_of_text(variable),
         };
@@ -289,14 +347,15 @@ impl KnownWord {
 }
 
 /// What is kept of a name that the language doesn't know.
-fn kept(name: &[u8]) -> Option<ShortText>
+fn kept(name: &[u8]) -> Option<Name>
     ensures { IsKeptName name.now result }
 {
-    ShortText::new(name)
+    Name::new(name)
 }
 
-/// Law: each name is that of a word, and of one only.
+/// Law: each name is that of a word, and of one only. Of an identifier only that isn't kept which has more bytes than a name.
 pub fn one_word()
     ensures some { (name : List ℕ) → (word : Word) × IsWord name word }
     ensures one { (name : List ℕ) (a b : Word) → IsWord name a → IsWord name b → a ≡ b }
+    ensures long { (name : List ℕ) → IsIdentifier name → IsWord name (Word.Unknown None) → name_max < length name }
 {}

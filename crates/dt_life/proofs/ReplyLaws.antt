@@ -193,7 +193,7 @@ module _ (some_verdict : (account : Account) (registry : Registry) (accepted : L
   some_accepted go v = (done, refl)
   some_accepted stop v = (done, refl)
   some_accepted close v = (done, refl)
-  some_accepted status v = (answers.status _ _ _ _, refl)
+  some_accepted status v = (answers.status _ _ _ _ _ _ _, refl)
   some_accepted (list (Err wrong)) v = cc
   some_accepted (list (Ok desc)) v = (listed _, refl)
   some_accepted (describe epid) v =

@@ -76,7 +76,3 @@ module _ (shapes : List ShapeForm) where
   abbrev pub contributions_of : Taking → List store.Event
   contributions_of t =
       option_map_or (λ form. split_by (uses_by t.ecb.clause.statements) form.values) (left_by t) []
-
-  -- the same for takings, in order
-  abbrev pub contributions : List Taking → List store.Event
-  contributions takings = flat_map contributions_of takings

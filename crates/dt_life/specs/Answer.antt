@@ -17,7 +17,7 @@ pub data Answer : Type 0 where
   enabled : (count first : ℕ) → Answer
   snapped : (cpu : ℕ) (bytes : List ℕ) (drops : ℕ) (filled : Bool) → Answer
   aggregated : (name : List ℕ) → AggFn → List RowForm → Answer
-  status : Phase → (seen : ℕ) (errors aggdrops : List ℕ) → Answer
+  status : Phase → (seen : ℕ) (errors aggdrops dyndrops specdrops : List ℕ) (specfails : ℕ) → Answer
   listed : List Probe → Answer
   described : (epid : ℕ) → Probe → Option (List FieldForm) → Answer
   refused : Refusal → Answer
@@ -27,7 +27,8 @@ answer_of Done = done
 answer_of (Enabled count first) = enabled count first
 answer_of (Snapped cpu bytes drops filled) = snapped cpu bytes.items drops filled
 answer_of (Aggregated name function rows) = aggregated name function (map form_of_row rows.items)
-answer_of (Status phase seen errors aggdrops) = status phase seen errors.items aggdrops.items
+answer_of (Status phase seen errors aggdrops dyndrops specdrops specfails) =
+    status phase seen errors.items aggdrops.items dyndrops.items specdrops.items specfails
 answer_of (Listed probes) = listed probes.items
 answer_of (Described epid probe layout) = described epid probe (form_of_layout layout)
 answer_of (Refused refusal) = refused refusal

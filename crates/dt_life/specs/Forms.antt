@@ -9,4 +9,7 @@ form_of_options o = record {
   bufpolicy = o.bufpolicy;
   aggsize = o.aggsize;
   histsize = o.histsize;
+  dynvarsize = o.dynvarsize;
+  nspec = o.nspec;
+  specsize = o.specsize;
 }

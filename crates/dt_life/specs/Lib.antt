@@ -14,6 +14,7 @@ pub mod Acceptance
 pub mod Ending
 pub mod Buffers
 pub mod Stores
+pub mod Variables
 pub mod Answer
 pub mod Reply
 pub mod Sees

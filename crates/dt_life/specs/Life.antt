@@ -1,6 +1,7 @@
 -- A consumer's life, and the set-up that its own lines and the firings that it saw have made of it.
 use Rattle.std.specs.Prelude.{ℕ, ◌+◌, ◌==◌, ◌&&◌, ◌||◌, Bool, true, false, not, List, [], ◌∷◌, ◌++◌, Option, Some, None}
 use Rattle.std.specs.Prelude.{Result, Ok, is_none, length, map, sum, nat_lt, nat_le, filter, if◌then◌else◌}
+use Rattle.std.specs.List.{list_any}
 use Rattle.std.specs.Option.{option_map, option_map_or, option_or}
 use Rattle.dt_cred.specs.declared.account.Account.{Account}
 use Rattle.dt_machine.specs.Registry.{Registry}
@@ -8,13 +9,15 @@ use Rattle.dt_cred.specs.declared.firing.Firing.{Firing}
 use Rattle.dt_lang.specs.Program.{ClauseForm}
 use Rattle.dt_lang.specs.Reads.{program}
 use Rattle.dt_record.specs.Layout.{layout_of, layout_size}
+use Rattle.dt_record.specs.Taking.{is_speculating}
 use Rattle.dt_ecb.specs.Ecbs.{EcbForm, ecbs_of, of_probe}
 use Rattle.dt_ecb.specs.Enable.{is_enabled}
 use Rattle.dt_ecb.specs.Shapes.{ShapeForm, uses_of}
 use Rattle.dt_life.specs.Aggregations.{aggregation_of}
 use Rattle.dt_life.specs.Ask.{Ask, option, enable, go, stop, snap, trunc, close}
 use Rattle.dt_life.specs.Options.{OptionsForm, default_options, with_setting, is_fill, is_ring}
-use Rattle.dt_life.specs.Takings.{TracingEvent, began, seen, snapped, truncated, ended, closed, first_exit, taken_by}
+use Rattle.dt_life.specs.Takings.{TracingEvent, began, seen, snapped, truncated, ended, closed, first_exit}
+use Rattle.dt_life.specs.TracingSteps.{TracingStep, steps_since, taken_by}
 use Rattle.dt_life.specs.Limits.{lines_max, end_id}
 use Rattle.dt_life.specs.declared.phase.End.{End}
 use Rattle.dt_life.specs.declared.phase.End.TheVariants.{Stop, Exit, History}
@@ -110,6 +113,10 @@ is_readable s Inactive = false
 is_readable s Active = not (is_ring s.options.bufpolicy)
 is_readable s (Stopped cause) = true
 
+-- how many bytes the record of a clause takes that it attempts to put into its processor's buffer
+abbrev pub attempt_size : ClauseForm → ℕ
+attempt_size clause = if list_any is_speculating clause.statements then 0 else layout_size (layout_of clause)
+
 module _ (account : Account) (registry : Registry) where
   -- a consumer's ECBs, and the EPID of its next one
   abbrev pub ecbs_in : SetUp → List EcbForm
@@ -122,24 +129,28 @@ module _ (account : Account) (registry : Registry) where
   abbrev pub accepts : SetUp → List ClauseForm → Bool
   accepts s clauses = is_inactive (phase_of s) && is_enabled account registry (shapes_in s) (next_epid s) clauses
 
-  -- the bytes of one record of each of END's ECBs
+  -- the bytes of one record of each of END's ECBs whose record isn't directed to a speculation
   abbrev pub end_size : SetUp → ℕ
-  end_size s = sum (map (λ (ecb : EcbForm). layout_size (layout_of ecb.clause)) (of_probe end_id (ecbs_in s)))
+  end_size s = sum (map (λ (ecb : EcbForm). attempt_size ecb.clause) (of_probe end_id (ecbs_in s)))
 
   -- Under fill, processor 0 keeps room for END's records, and there must be room for them.
   abbrev pub has_room : SetUp → Bool
   has_room s = not (is_fill s.options.bufpolicy) || nat_le (end_size s) s.options.bufsize
 
-  -- Why tracing ends by an event: an exit is taken, or the firing is the last of the history.
+  -- the steps of a consumer's tracing
+  abbrev pub tracing_steps : SetUp → List TracingStep
+  tracing_steps s = steps_since account registry s.options (ecbs_in s) s.since
+
+  -- Why tracing ends by an event that happens next: an exit is taken, or the firing is the last of the history.
   abbrev pub end_by : SetUp → TracingEvent → Option End
   end_by s event = option_or
-      (option_map Exit (first_exit (taken_by account registry (ecbs_in s) event)))
-      (if seen_count s.since == s.options.histsize then Some History else None)
+      (option_map Exit (first_exit (taken_by account registry s.options (ecbs_in s) (tracing_steps s) event)))
+      (if seen_count (event ∷ s.since) == s.options.histsize then Some History else None)
 
   -- Something happens, and where tracing ends by it, END fires in the same step.
   abbrev pub happens : SetUp → TracingEvent → SetUp
   happens s event = option_map_or
-      (λ end. with_event (with_event s event) (ended end)) (end_by (with_event s event) event) (with_event s event)
+      (λ end. with_event (with_event s event) (ended end)) (end_by s event) (with_event s event)
 
   -- Only what has an effect changes the set-up: options and programs before tracing begins, the first `go`, and then
   -- snaps that are answered, truncations of aggregations, firings, one `stop`, and a `close` where it hasn't stopped.

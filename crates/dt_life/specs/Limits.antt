@@ -33,6 +33,22 @@ history_min = 1
 abbrev pub history_max : ℕ
 history_max = 1048576
 
+-- how many bytes the thread-local variables that aren't 0 may cost where no option says otherwise
+abbrev pub dynvarsize_default : ℕ
+dynvarsize_default = 65536
+
+-- how many speculations there may be where no option says otherwise
+abbrev pub nspec_default : ℕ
+nspec_default = 1
+
+-- the fewest that `nspec` may ask for
+abbrev pub nspec_min : ℕ
+nspec_min = 1
+
+-- how many bytes a speculation has on each processor where no option says otherwise
+abbrev pub specsize_default : ℕ
+specsize_default = 4096
+
 -- the identifier of the probe that fires as tracing begins
 abbrev pub begin_id : ℕ
 begin_id = 1

@@ -26,6 +26,7 @@ use Rattle.dt_life.specs.Buffers.{errors, past}
 use Rattle.dt_life.specs.Life.{Item, SetUp, seen_count, is_over, set_up, next_epid, phase, is_active, is_inactive}
 use Rattle.dt_life.specs.Life.{is_readable, has_room, ecbs, shapes_in}
 use Rattle.dt_life.specs.Stores.{aggdrops_in, stores_in}
+use Rattle.dt_life.specs.Variables.{dyndrops_in, specdrops_in, specfails_in}
 use Rattle.dt_life.specs.declared.refusal.Refusal.{Refusal}
 use Rattle.dt_life.specs.declared.refusal.Refusal.TheVariants.{Program, NoMatch, Privilege, Destructive, AggClash}
 use Rattle.dt_life.specs.declared.refusal.Refusal.TheVariants.{Limit, Busy, NoCpu, NoAgg, NoEpid, Quota}
@@ -63,6 +64,13 @@ module _ (account : Account) (registry : Registry) (life : List Item) where
   -- the contributions that each processor's store doesn't keep
   abbrev pub all_aggdrops : List ℕ
   all_aggdrops = map (aggdrops_in account registry now) (range_with_len 0 registry.cpus)
+
+  -- the assignments and the speculated records that each processor dropped
+  abbrev pub all_dyndrops : List ℕ
+  all_dyndrops = map (dyndrops_in account registry now) (range_with_len 0 registry.cpus)
+
+  abbrev pub all_specdrops : List ℕ
+  all_specdrops = map (specdrops_in account registry now) (range_with_len 0 registry.cpus)
 
   -- the aggregation of a name, where an accepted program uses one
   abbrev pub known : List ℕ → Option Aggregation
@@ -119,7 +127,8 @@ module _ (account : Account) (registry : Registry) (life : List Item) where
       (λ a. answer ≡ aggregated name a.function (table_of (stores_in account registry now) a))
   Accepted (trunc name) answer = answer ≡ done
   Accepted status answer =
-      answer ≡ answers.status (phase account registry life) seen_firings all_errors all_aggdrops
+      answer ≡ answers.status (phase account registry life) seen_firings all_errors all_aggdrops all_dyndrops all_specdrops
+      (specfails_in account registry now)
   Accepted (list (Err wrong)) answer = ⊥
   Accepted (list (Ok desc)) answer = answer ≡ listed (matching.listed account registry desc)
   Accepted (describe epid) answer = MatchOption (ecb_of epid) ⊥

@@ -1,5 +1,5 @@
 -- Lives on a machine that a text describes, lives within bounds, and what a taking leaves by the layout of its clause.
-use Rattle.std.specs.Prelude.{◌≡◌, ℕ, ◌<◌, ◌^◌, List, Some, Result, Ok, IfSome}
+use Rattle.std.specs.Prelude.{◌≡◌, ℕ, ◌<◌, ◌≤◌, ◌^◌, List, Some, Result, Ok, IfSome}
 use Rattle.std.specs.List.{AllByRecursion}
 use Rattle.dt_cred.specs.declared.account.Account.{Account}
 use Rattle.dt_cred.specs.declared.firing.Firing.{Firing}
@@ -9,8 +9,10 @@ use Rattle.dt_machine.specs.Registry.{Contents, Registry, account_of, process_of
 use Rattle.dt_program.specs.Written.{IsWrittenProgram}
 use Rattle.dt_record.specs.Layout.{layout_of}
 use Rattle.dt_record.specs.Showing.{FitLayout}
-use Rattle.dt_life.specs.Ask.{Ask, enable}
+use Rattle.dt_speculation.specs.Limits.{nspec_max}
+use Rattle.dt_life.specs.Ask.{Ask, enable, option}
 use Rattle.dt_life.specs.Life.{Item, asked, fired}
+use Rattle.dt_life.specs.Options.{Setting, number_set, policy, speculations}
 use Rattle.dt_life.specs.Takings.{Taking, left_by}
 use Rattle.dt_life.specs.declared.refusal.Refusal.{Refusal}
 
@@ -18,9 +20,15 @@ use Rattle.dt_life.specs.declared.refusal.Refusal.{Refusal}
 abbrev pub IsScripted : List (List Firing) → Firing → Type 0
 IsScripted scripts firing = (cpu : ℕ) × (place : ℕ) × (firing_at scripts cpu place ≡ Some firing)
 
--- what is read of a program is the reading of some text
+-- a setting is of a policy, or what a name and a number set
+abbrev pub MayBeSet : Setting → Type 0
+MayBeSet (policy p) = Unit {0}
+MayBeSet setting = (name : List ℕ) × (n : ℕ) × (number_set name n ≡ Some setting)
+
+-- what is read of a program is the reading of some text, and a setting may be set
 abbrev pub MayBeAsked : Result Ask Refusal → Type 0
 MayBeAsked (Ok (enable reading)) = (text : List ℕ) × Reads text reading
+MayBeAsked (Ok (option setting)) = IfSome setting MayBeSet
 MayBeAsked _ = Unit {0}
 
 -- what may reach a consumer: what a line asks for, or a firing of a script
@@ -39,12 +47,18 @@ abbrev pub IsReadingInBounds : Reading → Type 0
 IsReadingInBounds (program clauses) = IsWrittenProgram clauses
 IsReadingInBounds _ = Unit {0}
 
+-- no more speculations are set than there may be
+abbrev pub IsSettingInBounds : Setting → Type 0
+IsSettingInBounds (speculations n) = n ≤ nspec_max
+IsSettingInBounds _ = Unit {0}
+
 abbrev pub IsItemInBounds : Item → Type 0
 IsItemInBounds (asked (Ok (enable reading))) = IsReadingInBounds reading
+IsItemInBounds (asked (Ok (option setting))) = IfSome setting IsSettingInBounds
 IsItemInBounds (asked _) = Unit {0}
 IsItemInBounds (fired firing) = IsFiringInBounds firing
 
--- A life within bounds: the machine's processes and probes, the firings and the programs are.
+-- A life within bounds: the machine's processes and probes, the firings, the programs and the settings are.
 pub record IsLifeInBounds (account : Account) (registry : Registry) (life : List Item) : Type 0 where
   pub uid : account.uid < 2 ^ 32
   pub processes : (pid : ℕ) → IfSome (process_of registry pid) IsProcessInBounds
@@ -55,4 +69,4 @@ pub record IsLifeInBounds (account : Account) (registry : Registry) (life : List
 -- shows of the scene, each of its field, and as long as the layout says; or there is neither a layout nor a record.
 abbrev pub IsOfLayout : Taking → Type 0
 IsOfLayout t = IfSome (left_by t)
-    (λ left. FitLayout t.ecb.epid t.scene t.ecb.clause (layout_of t.ecb.clause) left.record_bytes)
+    (λ left. FitLayout t.ecb.epid t.scene t.past t.ecb.clause (layout_of t.ecb.clause) left.record_bytes)

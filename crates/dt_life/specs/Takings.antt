@@ -1,8 +1,9 @@
 -- What a consumer takes: its ECBs, one after another, where a probe fires. Guide, Program Structure; Actions and
 -- Subroutines (exit).
-use Rattle.std.specs.Prelude.{ℕ, ℤ, pos, Bool, true, false, List, [], ◌∷◌, Option, Some, None, length, map}
-use Rattle.std.specs.Prelude.{filter, replicate, is_some, option_and_then, if◌then◌else◌}
-use Rattle.std.specs.Option.{option_map_or, option_or}
+use Rattle.std.specs.Prelude.{ℕ, ℤ, pos, Bool, true, false, List, [], ◌∷◌, ◌++◌, Option, Some, None, length, map, ◌==◌}
+use Rattle.std.specs.Prelude.{filter, replicate, take, is_some, option_and_then, if◌then◌else◌}
+use Rattle.std.specs.List.{enumerate_from, flat_map}
+use Rattle.std.specs.Option.{option_map, option_map_or, option_or, option_to_list}
 use Rattle.dt_cred.specs.declared.account.Account.{Account}
 use Rattle.dt_cred.specs.declared.account.Process.{Process}
 use Rattle.dt_cred.specs.declared.rights.Mode.TheVariants.{User}
@@ -10,9 +11,15 @@ use Rattle.dt_machine.specs.Registry.{Registry}
 use Rattle.dt_cred.specs.declared.firing.Firing.{Firing}
 use Rattle.dt_cred.specs.Limits.{argument_count, frame_count}
 use Rattle.dt_expr.specs.Scene.{SceneForm}
-use Rattle.dt_ecb.specs.Ecbs.{EcbForm, of_probe}
+use Rattle.dt_ecb.specs.Ecbs.{EcbForm}
+use Rattle.dt_locals.specs.History.{Assignment}
 use Rattle.dt_machine.specs.Context.{ContextForm, context_in, context_of}
-use Rattle.dt_record.specs.Taking.{Outcome, TakenForm, is_abandoned, left_in, taking}
+use Rattle.dt_record.specs.Pasts.{TracingPast}
+use Rattle.dt_record.specs.Taking.{TakenForm, ClauseTaken, SpecEndForm, committed, discarded}
+use Rattle.dt_record.specs.Taking.{is_abandoned, left_in, taking}
+use Rattle.dt_record.specs.Taking as clause
+use Rattle.dt_speculation.specs.History.{SpecEvent, SpecPast, put_under, free, specs_then}
+use Rattle.dt_speculation.specs.Parts.{part_bytes}
 use Rattle.dt_life.specs.Limits.{begin_id, end_id}
 use Rattle.dt_life.specs.declared.phase.End.{End}
 
@@ -30,32 +37,89 @@ abbrev pub is_end : TracingEvent → Bool
 is_end (ended end) = true
 is_end _ = false
 
--- An ECB that is taken: in which scene, what comes of its clause there, and whether END fired it.
+-- An ECB that is taken: in which scene, and after what came to variables and speculations; what comes of its clause there; and
+-- whether END fired it.
 pub record Taking : Type 0 where
   pub scene : SceneForm
+  pub past : TracingPast
   pub ecb : EcbForm
-  pub outcome : Outcome
+  pub taken : ClauseTaken
   pub in_end : Bool
 
 abbrev pub scene_at : ContextForm → ℕ → SceneForm
 scene_at context epid =
     record { epid = epid; probe = context.probe; process = context.process; firing = context.firing }
 
-abbrev pub taking_of : Bool → ContextForm → EcbForm → Taking
-taking_of in_end context ecb = record {
+abbrev pub taking_of : Bool → TracingPast → ContextForm → EcbForm → Taking
+taking_of in_end past context ecb = record {
   scene = scene_at context ecb.epid;
+  past = past;
   ecb = ecb;
-  outcome = taking ecb.epid (scene_at context ecb.epid) ecb.clause;
+  taken = taking ecb.epid (scene_at context ecb.epid) past ecb.clause;
   in_end = in_end;
 }
 
 -- what a taking left, where it left something
 abbrev pub left_by : Taking → Option TakenForm
-left_by t = left_in t.outcome
+left_by t = left_in t.taken.outcome
 
--- the bytes of the record that it attempts to put into its processor's buffer, where it attempts one
+-- the processor on which an ECB is taken
+abbrev pub cpu_of : Taking → ℕ
+cpu_of t = t.scene.firing.cpu
+
+-- the bytes of the record that it attempts to put into its processor's buffer, where it attempts one: a record that is
+-- directed to a speculation isn't attempted
 abbrev pub record_of : Taking → Option (List ℕ)
-record_of t = option_and_then (λ (form : TakenForm). form.record_bytes) (left_by t)
+record_of t = option_and_then (λ (form : TakenForm). if is_some form.spec then None else form.record_bytes) (left_by t)
+
+-- what it assigns to variables, also where a division by zero abandoned its clause later
+abbrev pub assignments_of : Taking → List Assignment
+assignments_of t = flat_map clause.assigned_by t.taken.effects
+
+-- the draws that it makes, also then
+abbrev pub draws_of : Taking → List SpecEvent
+draws_of t = flat_map clause.drawn_by t.taken.effects
+
+-- the record that a clause left and that is put under an identifier on a processor, where it is directed to one
+abbrev pub puts_in : (cpu : ℕ) → TakenForm → List SpecEvent
+puts_in cpu form = option_to_list
+    (option_and_then (λ id. option_map (put_under id cpu) form.record_bytes) form.spec)
+
+-- the record that a taking puts so
+abbrev pub puts_of : Taking → List SpecEvent
+puts_of t = option_to_list (option_and_then
+    (λ (form : TakenForm). option_and_then (λ id. option_map (put_under id (cpu_of t)) form.record_bytes) form.spec)
+    (left_by t))
+
+-- the speculations that it ends, in order
+abbrev pub ends_of : Taking → List SpecEndForm
+ends_of t = option_map_or (λ (form : TakenForm). form.ends) (left_by t) []
+
+abbrev pub ended_id : SpecEndForm → ℕ
+ended_id (committed id) = id
+ended_id (discarded id) = id
+
+-- the identifiers of ends are freed
+abbrev pub freed_by : List SpecEndForm → List SpecEvent
+freed_by ends = map (λ end. free (ended_id end)) ends
+
+-- what comes to speculations by a taking: its draws, the record that it puts, and then what its commits and discards free
+abbrev pub spec_events_of : Taking → List SpecEvent
+spec_events_of t = draws_of t ++ puts_of t ++ freed_by (ends_of t)
+
+-- the part of a processor that a commit takes out of a speculation, if it has bytes
+abbrev pub part_out : (cpu : ℕ) → SpecPast → SpecEndForm → List (List ℕ)
+part_out cpu specs (committed id) = if length (part_bytes specs id cpu) == 0 then [] else part_bytes specs id cpu ∷ []
+part_out cpu specs (discarded id) = []
+
+-- the parts of a processor that commits take out, each after what the ends before it freed
+abbrev pub parts_out : (cpu : ℕ) → SpecPast → List SpecEndForm → List (List ℕ)
+parts_out cpu specs ends = flat_map
+    (λ (one : ℕ × SpecEndForm). part_out cpu (specs_then specs (freed_by (take one.0 ends))) one.1) (enumerate_from 0 ends)
+
+-- the parts of a processor that a taking commits, after its draws and its own record
+abbrev pub parts_committed : (cpu : ℕ) → Taking → List (List ℕ)
+parts_committed cpu t = parts_out cpu (specs_then t.past.specs (draws_of t ++ puts_of t)) (ends_of t)
 
 -- the status that it exits with, where it exits
 abbrev pub exit_of : Taking → Option ℤ
@@ -73,14 +137,7 @@ through_exit (t ∷ later) = t ∷ (if is_some (exit_of t) then [] else through_
 
 -- how many takings a division by zero ended
 abbrev pub faults : List Taking → ℕ
-faults takings = length (filter (λ t. is_abandoned t.outcome) takings)
-
--- The ECBs of the probe that fires, in order of EPID. After an exit the later ones aren't taken; in END an exit is
--- passed over.
-abbrev pub taken_at : Bool → List EcbForm → ContextForm → List Taking
-taken_at in_end ecbs context =
-    let all = map (taking_of in_end context) (of_probe context.firing.probe ecbs) in
-    if in_end then all else through_exit all
+faults takings = length (filter (λ t. is_abandoned t.taken.outcome) takings)
 
 -- BEGIN and END fire on processor 0, in a process of the consumer's own: of number 0, with the account's uid and no
 -- name.
@@ -113,8 +170,3 @@ module _ (account : Account) (registry : Registry) where
   context_at (truncated name) = None
   context_at (ended end) = own_context account registry end_id
   context_at closed = None
-
-  module _ (ecbs : List EcbForm) where
-    -- what is taken by an event
-    abbrev pub taken_by : TracingEvent → List Taking
-    taken_by event = option_map_or (taken_at (is_end event) ecbs) (context_at event) []

@@ -4,9 +4,6 @@ use Rattle.std.specs.Prelude.{slice_get}
 use Rattle.dt_aggstore.specs.History as store
 use Rattle.dt_aggstore.specs.IsAt.{IsAt, added_of}
 use Rattle.dt_aggstore.specs.declared.store.AggStore.{AggStore}
-use Rattle.dt_ecb.specs.Shapes.{ShapeForm}
-use Rattle.dt_life.specs.Aggregations.{contributions}
-use Rattle.dt_life.specs.Takings.{Taking}
 
 -- the past of a store, and then these
 abbrev pub given_then : store.Past → List store.Event → store.Past
@@ -15,10 +12,6 @@ given_then past events = record { size = past.size; events = past.events ++ even
 -- Each store is at the end of its past.
 abbrev pub AreGiven : (ℕ → store.Past) → List AggStore → Type 0
 AreGiven pasts stores = (cpu : ℕ) → IfSome (slice_get stores cpu) (IsAt (pasts cpu))
-
--- pasts, and then what these takings give, of each processor
-abbrev pub given_and : List ShapeForm → (ℕ → store.Past) → (ℕ → List Taking) → ℕ → store.Past
-given_and shapes pasts new cpu = given_then (pasts cpu) (contributions shapes (new cpu))
 
 -- A store counts at most so many contributions.
 abbrev pub GivenAtMost : ℕ → AggStore → Type 0

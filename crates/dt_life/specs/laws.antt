@@ -4,6 +4,10 @@ pub mod Options
 pub mod Lists
 pub mod Takings
 pub mod TracingSteps
+pub mod InTurn
+pub mod Rows
+pub mod Pasts
+pub mod Parts
 pub mod Buffers
 pub mod Contexts
 pub mod Sizes

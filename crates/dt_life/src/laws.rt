@@ -1,11 +1,13 @@
 //! What holds of the definitions alone: a line has one reply; the phase of a life, in words; and records are of their layouts.
-ghost use Rattle.std.specs.Prelude.{◌≡◌, ◌≢◌, ◌↔◌, ◌≤◌, ℕ, Bool, true, IsTrue, List, [], ◌∷◌, map, Option, None, Result, Ok};
-ghost use Rattle.std.specs.List.{AllByRecursion};
+ghost use Rattle.std.specs.Prelude.{◌≡◌, ◌≢◌, ◌↔◌, ◌≤◌, ℕ, Bool, true, IsTrue, List, [], ◌∷◌, map, Option, None, Result, Ok, FitsSigned};
+ghost use Rattle.std.specs.Int.{w64};
+ghost use Rattle.std.specs.List.{AllByRecursion, flat_map};
 ghost use Rattle.dt_buffer.specs.Shows.{Shows};
 ghost use Rattle.dt_cred.specs.declared.account.Account.{Account};
 ghost use Rattle.dt_cred.specs.declared.firing.Firing.{Firing};
 ghost use Rattle.dt_ecb.specs.Ecbs.{EcbForm};
 ghost use Rattle.dt_ecb.specs.Interest.{interest_of};
+ghost use Rattle.dt_machine.specs.Context.{ContextForm};
 ghost use Rattle.dt_machine.specs.Interest as interest;
 ghost use Rattle.dt_machine.specs.Reading.{IsDescribed};
 ghost use Rattle.dt_machine.specs.Registry.{Belongs, Contents, Registry};
@@ -17,13 +19,15 @@ ghost use Rattle.dt_life.specs.Answer.{Answer};
 ghost use Rattle.dt_life.specs.Ask.{Ask, go, close};
 ghost use Rattle.dt_life.specs.Buffers.{past};
 ghost use Rattle.dt_life.specs.Ending.{phase_by_event, phase_by_item};
-ghost use Rattle.dt_life.specs.Life.{Item, asked, ecbs, has_room, phase, seen_count, set_up, since_then};
+ghost use Rattle.dt_life.specs.Life.{Item, asked, ecbs, has_room, phase, seen_count, set_up, since_then, tracing_steps};
 ghost use Rattle.dt_life.specs.Reply.{Replies};
 ghost use Rattle.dt_life.specs.Scenes.{IsLifeInBounds, IsLifeOn, IsOfLayout};
 ghost use Rattle.dt_life.specs.Sees.{Sees};
-ghost use Rattle.dt_life.specs.Takings.{began};
-ghost use Rattle.dt_life.specs.TracingSteps.{taken_since};
+ghost use Rattle.dt_life.specs.Options.{OptionsForm};
+ghost use Rattle.dt_life.specs.Takings.{Taking, began};
+ghost use Rattle.dt_life.specs.TracingSteps.{AreTakenInTurn, TracingStep, taken_in_turn, taken_on};
 ghost use Rattle.dt_life.specs.Tests.{is_accepted_go, is_seen};
+ghost use Rattle.dt_life.specs.Variables.{locals};
 ghost use Rattle.dt_life.specs.declared.phase.End.{End};
 ghost use Rattle.dt_life.specs.declared.phase.Phase.TheVariants.{Inactive, Active, Stopped};
 ghost use Rattle.dt_life.specs.declared.refusal.Refusal.{Refusal};
@@ -106,6 +110,15 @@ pub fn seen_by_interest()
         → Sees account registry life firing → IsShown account registry firing }
 {}
 
+/// Law: the takings of ECBs, one after another, are one list.
+pub fn one_row_of_takings()
+    ensures some { (options : OptionsForm) (steps : List TracingStep) (in_end : Bool) (context : ContextForm) (ecbs : List EcbForm)
+        → AreTakenInTurn options steps in_end context ecbs (taken_in_turn options steps in_end context ecbs) }
+    ensures one { (options : OptionsForm) (steps : List TracingStep) (in_end : Bool) (context : ContextForm) (ecbs : List EcbForm)
+        (a b : List Taking) → AreTakenInTurn options steps in_end context ecbs a
+        → AreTakenInTurn options steps in_end context ecbs b → a ≡ b }
+{}
+
 /// Law: what is taken in a life on a machine that a text describes leaves records of the clauses' layouts.
 pub fn records_are_of_layouts()
     // of lines and firings of the scripts: each program, each firing and what it names lie within their bounds
@@ -116,7 +129,10 @@ pub fn records_are_of_layouts()
     ensures fit { (account : Account) (registry : Registry) (life : List Item) (cpu : ℕ)
         → IsLifeInBounds account registry life
         → AllByRecursion IsOfLayout
-        (taken_since account registry (ecbs account registry life) cpu (set_up account registry life).since) }
+        (flat_map (taken_on cpu) (tracing_steps account registry (set_up account registry life))) }
+    // what is assigned to thread-local variables has 64 bits with a sign
+    ensures assigned { (account : Account) (registry : Registry) (life : List Item) → IsLifeInBounds account registry life
+        → AllByRecursion (λ assignment. FitsSigned w64 assignment.value) (locals account registry life).assignments }
     // what the processor's buffer shows is split into such records, by their EPIDs
     ensures shown { (account : Account) (registry : Registry) (life : List Item) (cpu : ℕ) (bytes : List ℕ) (drops : ℕ)
         (filled : Bool) → IsLifeInBounds account registry life → Shows (past account registry life cpu) bytes drops filled

@@ -28,13 +28,13 @@ mod visibility;
 pub use command::{Command, OptionValue};
 pub use dt_machine::Context;
 pub use laws::{
-    ecbs_stay, one_reply, phases, records_are_of_layouts, seen_by_interest, seen_within_history,
-    some_reply, tests_agree,
+    ecbs_stay, one_reply, one_row_of_takings, phases, records_are_of_layouts, seen_by_interest,
+    seen_within_history, some_reply, tests_agree,
 };
 pub use limit_laws::limits_agree;
 pub use limits::{
-    AGGSIZE, AGGSIZE_MIN, BEGIN, BUFFER_SIZE, BUFFER_SIZE_MIN, END, HISTORY, HISTORY_MAX,
-    HISTORY_MIN, LINES_MAX,
+    AGGSIZE, AGGSIZE_MIN, BEGIN, BUFFER_SIZE, BUFFER_SIZE_MIN, DYNVARSIZE, END, HISTORY,
+    HISTORY_MAX, HISTORY_MIN, LINES_MAX, NSPEC, NSPEC_MIN, SPECSIZE,
 };
 pub use named_aggregation::NamedAggregation;
 pub use options::Options;

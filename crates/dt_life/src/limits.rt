@@ -25,6 +25,20 @@ pub const HISTORY_MIN: u32 = 1;
 /// The most firings that `histsize` may ask for.
 pub const HISTORY_MAX: u32 = 1_048_576;
 
+/// How many bytes the thread-local variables that aren't 0 may cost, where no option says otherwise. The fewest and the most are
+/// dt_locals's `DYNVARSIZE_MIN` and `DYNVARSIZE_MAX`.
+pub const DYNVARSIZE: usize = 65_536;
+
+/// How many speculations there may be where no option says otherwise. The most are dt_speculation's `NSPEC_MAX`.
+pub const NSPEC: usize = 1;
+
+/// The fewest speculations that `nspec` may ask for.
+pub const NSPEC_MIN: usize = 1;
+
+/// How many bytes a speculation has on each processor where no option says otherwise. The fewest and the most are
+/// dt_speculation's `SPECSIZE_MIN` and `SPECSIZE_MAX`.
+pub const SPECSIZE: usize = 4_096;
+
 /// The identifier of the probe that fires as tracing begins.
 pub const BEGIN: u32 = 1;
 

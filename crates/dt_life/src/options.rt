@@ -2,16 +2,21 @@
 ghost use Rattle.std.specs.Prelude.{◌≡◌, ◌≤◌};
 ghost use Rattle.dt_aggstore.specs.declared.limits.TheConstants.{AGGSIZE_MAX};
 ghost use Rattle.dt_buffer.specs.declared.limits.TheConstants.{SIZE_MAX};
+ghost use Rattle.dt_locals.specs.declared.limits.TheConstants.{DYNVARSIZE_MAX, DYNVARSIZE_MIN};
+ghost use Rattle.dt_speculation.specs.declared.limits.TheConstants.{NSPEC_MAX, SPECSIZE_MAX, SPECSIZE_MIN};
 ghost use Rattle.dt_life.specs.Options as spec;
-ghost use Rattle.dt_life.specs.declared.limits.TheConstants.{HISTORY_MAX, HISTORY_MIN};
+ghost use Rattle.dt_life.specs.declared.limits.TheConstants.{HISTORY_MAX, HISTORY_MIN, NSPEC_MIN};
 
 use crate::command::OptionValue;
 use crate::limits::{
-    AGGSIZE, AGGSIZE_MIN, BUFFER_SIZE, BUFFER_SIZE_MIN, HISTORY, HISTORY_MAX, HISTORY_MIN,
+    AGGSIZE, AGGSIZE_MIN, BUFFER_SIZE, BUFFER_SIZE_MIN, DYNVARSIZE, HISTORY, HISTORY_MAX,
+    HISTORY_MIN, NSPEC, NSPEC_MIN, SPECSIZE,
 };
 use crate::phase::Phase;
 use dt_aggstore::AGGSIZE_MAX;
 use dt_buffer::{Policy, SIZE_MAX};
+use dt_locals::{DYNVARSIZE_MAX, DYNVARSIZE_MIN};
+use dt_speculation::{NSPEC_MAX, SPECSIZE_MAX, SPECSIZE_MIN};
 
 /// What holds of a consumer's tracing from its `go` on. (illumos Dynamic Tracing Guide, "Options and Tunables".)
 #[derive(Clone, Copy)]
@@ -24,10 +29,22 @@ pub struct Options {
     pub aggsize: usize,
     /// After how many seen firings tracing ends.
     pub histsize: u32,
+    /// How many bytes the thread-local variables that aren't 0 may cost.
+    pub dynvarsize: usize,
+    /// How many speculations there may be.
+    pub nspec: usize,
+    /// How many bytes a speculation has on each processor.
+    pub specsize: usize,
     ghost small: { bufsize ≤ SIZE_MAX },
     ghost few_entries: { aggsize ≤ AGGSIZE_MAX },
     ghost some: { HISTORY_MIN ≤ histsize },
     ghost few: { histsize ≤ HISTORY_MAX },
+    ghost some_room: { DYNVARSIZE_MIN ≤ dynvarsize },
+    ghost small_room: { dynvarsize ≤ DYNVARSIZE_MAX },
+    ghost some_speculations: { NSPEC_MIN ≤ nspec },
+    ghost few_speculations: { nspec ≤ NSPEC_MAX },
+    ghost some_bytes: { SPECSIZE_MIN ≤ specsize },
+    ghost few_bytes: { specsize ≤ SPECSIZE_MAX },
 }
 
 impl Options {
@@ -45,6 +62,9 @@ impl Options {
             bufpolicy: Policy::Switch,
             aggsize: AGGSIZE,
             histsize: HISTORY,
+            dynvarsize: DYNVARSIZE,
+            nspec: NSPEC,
+            specsize: SPECSIZE,
         }
     }
 
@@ -58,13 +78,9 @@ impl Options {
             OptionValue::Number(number) => self.set_number(name, *number),
             OptionValue::Text(word) => {
                 if name == "bufpolicy" {
-                    let bufpolicy = policy_of(word.as_str())?;
-                    Some(Options {
-                        bufsize: self.bufsize,
-                        bufpolicy,
-                        aggsize: self.aggsize,
-                        histsize: self.histsize,
-                    })
+                    let mut options = self;
+                    options.bufpolicy = policy_of(word.as_str())?;
+                    Some(options)
                 } else {
                     None
                 }
@@ -89,33 +105,37 @@ impl Options {
         ensures { option_map form_of_options result
             ≡ option_map (with_setting (form_of_options self)) (number_set name.now number) }
     {
+        let mut options = self;
         if name == "bufsize" && BUFFER_SIZE_MIN as u64 <= number && number <= SIZE_MAX as u64 {
-            Some(Options {
-                bufsize: number as usize,
-                bufpolicy: self.bufpolicy,
-                aggsize: self.aggsize,
-                histsize: self.histsize,
-            })
+            options.bufsize = number as usize;
+            Some(options)
         } else if name == "aggsize"
             && AGGSIZE_MIN as u64 <= number
             && number <= AGGSIZE_MAX as u64
         {
-            Some(Options {
-                bufsize: self.bufsize,
-                bufpolicy: self.bufpolicy,
-                aggsize: number as usize,
-                histsize: self.histsize,
-            })
+            options.aggsize = number as usize;
+            Some(options)
         } else if name == "histsize"
             && u64::from(HISTORY_MIN) <= number
             && number <= u64::from(HISTORY_MAX)
         {
-            Some(Options {
-                bufsize: self.bufsize,
-                bufpolicy: self.bufpolicy,
-                aggsize: self.aggsize,
-                histsize: number as u32,
-            })
+            options.histsize = number as u32;
+            Some(options)
+        } else if name == "dynvarsize"
+            && DYNVARSIZE_MIN as u64 <= number
+            && number <= DYNVARSIZE_MAX as u64
+        {
+            options.dynvarsize = number as usize;
+            Some(options)
+        } else if name == "nspec" && NSPEC_MIN as u64 <= number && number <= NSPEC_MAX as u64 {
+            options.nspec = number as usize;
+            Some(options)
+        } else if name == "specsize"
+            && SPECSIZE_MIN as u64 <= number
+            && number <= SPECSIZE_MAX as u64
+        {
+            options.specsize = number as usize;
+            Some(options)
         } else {
             None
         }

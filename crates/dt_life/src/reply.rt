@@ -30,13 +30,18 @@ pub enum Reply {
         function: AggFn,
         rows: Vec<Row>,
     },
-    /// How far the consumer has come and why it ended, how many firings it saw, and for each processor how many clauses
-    /// a division by zero ended there, and how many values its store of aggregations did not keep.
+    /// How far the consumer has come and why it ended, how many firings it saw; for each processor how many clauses a
+    /// division by zero ended there, how many values its store of aggregations did not keep, how many assignments to
+    /// thread-local variables found no room there, and how many records speculations dropped there; and how many draws of an
+    /// identifier failed.
     Status {
         phase: Phase,
         seen: u64,
         errors: Vec<u64>,
         aggdrops: Vec<u64>,
+        dyndrops: Vec<u64>,
+        specdrops: Vec<u64>,
+        specfails: u64,
     },
     /// The probes that a description asks for and the account may enable, by rising identifier.
     Listed {

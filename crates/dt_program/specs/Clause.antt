@@ -26,6 +26,9 @@ pub data StatementForm : Type 0 where
   stack ustack : (frames : ℕ) → StatementForm
   exit : Form → StatementForm
   aggregate : (name : List ℕ) (keys : List ArgForm) → CallForm → StatementForm
+  assign : (name : List ℕ) → Form → StatementForm
+  draw : (name : List ℕ) → StatementForm
+  speculate commit discard : Form → StatementForm
 
 pub record ClauseForm : Type 0 where
   pub descriptions : List DescForm
@@ -51,6 +54,11 @@ form_of_statement (statement.Stack f) = stack f.count
 form_of_statement (statement.Ustack f) = ustack f.count
 form_of_statement (statement.Exit e) = exit (form_of e)
 form_of_statement (statement.Aggregate a) = aggregate a.name (map form_of_argument a.keys.items) (form_of_call a.call)
+form_of_statement (statement.Assign name e) = assign name (form_of e)
+form_of_statement (statement.Draw name) = draw name
+form_of_statement (statement.Speculate e) = speculate (form_of e)
+form_of_statement (statement.Commit e) = commit (form_of e)
+form_of_statement (statement.Discard e) = discard (form_of e)
 
 abbrev pub form_of_clause : Clause → ClauseForm
 form_of_clause c = record {

@@ -5,6 +5,7 @@ pub mod Limits
 pub mod Bounds
 pub mod Description
 pub mod Clause
+pub mod Kinds
 pub mod Program
 pub mod Written
 -- The laws of these.

@@ -3,8 +3,8 @@
 use Rattle.std.specs.Prelude.{ℕ, ℤ, ◌+◌, ◌≤◌, List, length, IfSome, FitsSigned}
 use Rattle.std.specs.Int.{w64}
 use Rattle.std.specs.List.{AllByRecursion}
-use Rattle.dt_names.specs.Limits.{short_text_max}
-use Rattle.dt_expr.specs.Form.{Form, Num, Named, Prefixed, Joined, Compared}
+use Rattle.dt_names.specs.Limits.{name_max, short_text_max}
+use Rattle.dt_expr.specs.Form.{Form, Num, Named, Local, Prefixed, Joined, Compared}
 use Rattle.dt_expr.specs.declared.text.Text.{Text}
 use Rattle.dt_expr.specs.declared.text.Text.TheVariants.{Literal, Variable}
 use Rattle.dt_aggfn.specs.Bounds.{AreBounds}
@@ -16,18 +16,20 @@ abbrev pub IsWrittenText : Text → Type 0
 IsWrittenText (Literal bytes) = length bytes ≤ short_text_max
 IsWrittenText (Variable variable) = Unit {0}
 
--- the numbers of an expression have 64 bits with a sign, and its texts are short
+-- the numbers of an expression have 64 bits with a sign, and its texts and names are short
 abbrev pub HasWrittenParts : Form → Type 0
 HasWrittenParts (Num z) = FitsSigned w64 z
 HasWrittenParts (Named variable) = Unit {0}
+HasWrittenParts (Local name) = length name ≤ name_max
 HasWrittenParts (Prefixed op operand) = HasWrittenParts operand
 HasWrittenParts (Joined op left right) = HasWrittenParts left × HasWrittenParts right
 HasWrittenParts (Compared op left right) = IsWrittenText left × IsWrittenText right
 
--- how many operands and operators an expression has: so many tokens are written, and its parentheses
+-- how many tokens an expression has, without its parentheses
 abbrev pub parts_count : Form → ℕ
 parts_count (Num z) = 1
 parts_count (Named variable) = 1
+parts_count (Local name) = 3
 parts_count (Prefixed op operand) = 1 + parts_count operand
 parts_count (Joined op left right) = parts_count left + 1 + parts_count right
 parts_count (Compared op left right) = 3
@@ -65,12 +67,21 @@ pub record IsWrittenUse (name : List ℕ) (keys : List ArgForm) (call : CallForm
   pub keys_written : AllByRecursion IsWrittenArgument keys
   pub call_written : IsWrittenCall call
 
+pub record IsWrittenAssignment (name : List ℕ) (f : Form) : Type 0 where
+  pub short : length name ≤ name_max
+  pub value_written : IsWrittenExpression f
+
 abbrev pub IsWrittenStatement : StatementForm → Type 0
 IsWrittenStatement (program.trace a) = IsWrittenArgument a
 IsWrittenStatement (program.stack n) = AreWrittenFrames n
 IsWrittenStatement (program.ustack n) = AreWrittenFrames n
 IsWrittenStatement (program.exit f) = IsWrittenExpression f
 IsWrittenStatement (program.aggregate name keys call) = IsWrittenUse name keys call
+IsWrittenStatement (program.assign name f) = IsWrittenAssignment name f
+IsWrittenStatement (program.draw name) = length name ≤ name_max
+IsWrittenStatement (program.speculate f) = IsWrittenExpression f
+IsWrittenStatement (program.commit f) = IsWrittenExpression f
+IsWrittenStatement (program.discard f) = IsWrittenExpression f
 
 pub record IsWrittenClause (clause : ClauseForm) : Type 0 where
   pub described : 1 ≤ length clause.descriptions

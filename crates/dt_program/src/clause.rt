@@ -6,7 +6,7 @@ ghost use Rattle.dt_program.specs.declared.clause.TheConstants.{DESCRIPTIONS_MAX
 use crate::description::Description;
 use dt_aggfn::Bounds;
 use dt_expr::{Expr, Text};
-use dt_names::ShortText;
+use dt_names::{Name, ShortText};
 use thiserror::Error;
 
 /// The most descriptions of a clause.
@@ -129,6 +129,16 @@ pub enum Statement {
     Exit(Expr),
     /// The value is given to an aggregation.
     Aggregate(AggregationUse),
+    /// `self->x = e`: the variable of this name of the thread in which the probe fired gets the value.
+    Assign(Name, Expr),
+    /// `self->x = speculation()`: the variable gets the identifier that is drawn, 0 where none is free.
+    Draw(Name),
+    /// `speculate(e)`: the record goes to the speculation of this identifier.
+    Speculate(Expr),
+    /// `commit(e)`: the records of this identifier's speculation go to the principal buffers.
+    Commit(Expr),
+    /// `discard(e)`: the records of this identifier's speculation are thrown away.
+    Discard(Expr),
 }
 
 /// What is to be done at the probes that some descriptions ask for, where the predicate, if there is one, isn't 0.

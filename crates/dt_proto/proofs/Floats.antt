@@ -98,8 +98,14 @@ no_float done = refl
 no_float (enabled count first) = refl
 no_float (snapped cpu bytes drops filled) = refl
 no_float (aggregated name function table) = rw (rows_plain table) refl
-no_float (status phase seen errors aggdrops) = rw
-    (numbers_plain aggdrops, cause_plain phase, numbers_plain errors, exit_plain phase) refl
+no_float (status phase seen errors aggdrops dyndrops specdrops specfails) = rw (
+  numbers_plain aggdrops,
+  cause_plain phase,
+  numbers_plain dyndrops,
+  numbers_plain errors,
+  exit_plain phase,
+  numbers_plain specdrops,
+) refl
 no_float (described epid probe layout) = rw (fields_plain (fields_in layout)) refl
 no_float (listed probes) = ap (λ b. b || false) (probes_plain probes)
 no_float (refused refusal) = refusal_plain refusal

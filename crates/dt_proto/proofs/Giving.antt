@@ -1,5 +1,5 @@
 -- The lines that were given so far, and one more.
-use Rattle.std.proofs.Common.{◌≡◌, ℕ, ◌-◌, Bool, true, false, List, [], ◌∷◌, ◌++◌, map, sym, ap}
+use Rattle.std.proofs.Common.{◌≡◌, ℕ, Bool, true, false, List, [], ◌∷◌, ◌++◌, map, sym, ap}
 use Rattle.std.proofs.Common.{◌∙◌, append_assoc, subst}
 use Rattle.std.proofs.lemmas.List.{append-nil, map-append}
 use Rattle.dt_proto.specs.Asked.{form_asked}

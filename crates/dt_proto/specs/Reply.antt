@@ -72,6 +72,9 @@ abbrev pub exit_data : Phase → Data
 exit_data (Stopped (Some (Exit code))) = of_signed code
 exit_data _ = null
 
+abbrev pub numbers_data : List ℕ → Data
+numbers_data numbers = array (items_of (map of_number numbers))
+
 abbrev pub reply_members : Answer → Members
 reply_members done = ok_and no_members
 reply_members (enabled count first) = member (codes "count") (of_number count)
@@ -82,11 +85,12 @@ reply_members (snapped cpu bytes drops filled) =
 reply_members (aggregated name function rows) =
     member (codes "fn") (string (function_word function)) (member (codes "name") (string (characters name))
     (ok_and (member (codes "rows") (array (items_of (map row_data rows))) no_members)))
-reply_members (status phase seen errors aggdrops) =
-    member (codes "aggdrops") (array (items_of (map of_number aggdrops)))
-    (member (codes "cause") (cause_data phase) (member (codes "errors") (array (items_of (map of_number errors)))
+reply_members (status phase seen errors aggdrops dyndrops specdrops specfails) =
+    member (codes "aggdrops") (numbers_data aggdrops) (member (codes "cause") (cause_data phase)
+    (member (codes "dyndrops") (numbers_data dyndrops) (member (codes "errors") (numbers_data errors)
     (member (codes "exit") (exit_data phase) (ok_and (member (codes "phase") (string (phase_word phase))
-    (member (codes "seen") (of_number seen) no_members))))))
+    (member (codes "seen") (of_number seen) (member (codes "specdrops") (numbers_data specdrops)
+    (member (codes "specfails") (of_number specfails) no_members)))))))))
 reply_members (described epid probe layout) =
     member (codes "epid") (of_number epid) (member (codes "id") (of_number probe.id)
     (member (codes "layout") (array (items_of (map field_data (fields_in layout))))
@@ -105,12 +109,13 @@ abbrev pub numbers_text : List ℕ → List ℕ
 numbers_text numbers = join_with_byte comma (map decimal numbers)
 
 -- the text of a status whose cause, exit and phase have these texts
-abbrev pub status_text : (cause exit phase : List ℕ) (seen : ℕ) (errors aggdrops : List ℕ) → List ℕ
-status_text cause exit phase seen errors aggdrops =
-    codes "{\"aggdrops\":[" ++ numbers_text aggdrops
-    ++ codes "],\"cause\":" ++ cause ++ codes ",\"errors\":[" ++ numbers_text errors
+abbrev pub status_text : (cause exit phase : List ℕ) (seen : ℕ) (errors aggdrops dyndrops specdrops : List ℕ) (specfails : ℕ) → List ℕ
+status_text cause exit phase seen errors aggdrops dyndrops specdrops specfails =
+    codes "{\"aggdrops\":[" ++ numbers_text aggdrops ++ codes "],\"cause\":" ++ cause
+    ++ codes ",\"dyndrops\":[" ++ numbers_text dyndrops ++ codes "],\"errors\":[" ++ numbers_text errors
     ++ codes "],\"exit\":" ++ exit ++ codes ",\"ok\":true,\"phase\":\"" ++ phase
-    ++ codes "\",\"seen\":" ++ decimal seen ++ codes "}\n"
+    ++ codes "\",\"seen\":" ++ decimal seen ++ codes ",\"specdrops\":[" ++ numbers_text specdrops
+    ++ codes "],\"specfails\":" ++ decimal specfails ++ codes "}\n"
 
 -- the text that describes an ECB, of whose record the values and the size have these texts
 abbrev pub describe_text : (epid : ℕ) → Probe → (values size : List ℕ) → List ℕ

@@ -55,7 +55,12 @@ pub fn reply_bytes(alloc: Global, reply: &Reply) -> Result<Vec<u8>, AllocError>
             seen,
             errors,
             aggdrops,
-        } => status_line(alloc, *phase, *seen, errors, aggdrops),
+            dyndrops,
+            specdrops,
+            specfails,
+        } => status_line(
+            alloc, *phase, *seen, errors, aggdrops, dyndrops, specdrops, *specfails,
+        ),
         Reply::Listed { probes } => listed_line(alloc, probes),
         Reply::Described {
             epid,
@@ -170,22 +175,30 @@ pub fn reply_texts()
         ++ compact_text (string (characters name)) ++ codes ",\"ok\":true,\"rows\":["
         ++ join_with_byte comma (map row_text rows) ++ codes "]}\n" }
 
-    ensures inactive { (seen : ℕ) (errors aggdrops : List ℕ) → reply_text (status Phase.Inactive seen errors aggdrops)
-        ≡ status_text (codes "null") (codes "null") (codes "inactive") seen errors aggdrops }
-    ensures active { (seen : ℕ) (errors aggdrops : List ℕ) → reply_text (status Phase.Active seen errors aggdrops)
-        ≡ status_text (codes "null") (codes "null") (codes "active") seen errors aggdrops }
-    ensures stopped { (seen : ℕ) (errors aggdrops : List ℕ)
-        → reply_text (status (Phase.Stopped (Some Stop)) seen errors aggdrops)
-        ≡ status_text (codes "\"stop\"") (codes "null") (codes "stopped") seen errors aggdrops }
-    ensures exited { (code : ℤ) (seen : ℕ) (errors aggdrops : List ℕ)
-        → reply_text (status (Phase.Stopped (Some (Exit code))) seen errors aggdrops)
-        ≡ status_text (codes "\"exit\"") (signed_decimal code) (codes "stopped") seen errors aggdrops }
-    ensures history { (seen : ℕ) (errors aggdrops : List ℕ)
-        → reply_text (status (Phase.Stopped (Some History)) seen errors aggdrops)
-        ≡ status_text (codes "\"history\"") (codes "null") (codes "stopped") seen errors aggdrops }
-    ensures closed { (seen : ℕ) (errors aggdrops : List ℕ)
-        → reply_text (status (Phase.Stopped None) seen errors aggdrops)
-        ≡ status_text (codes "null") (codes "null") (codes "stopped") seen errors aggdrops }
+    ensures inactive { (seen : ℕ) (errors aggdrops dyndrops specdrops : List ℕ) (specfails : ℕ)
+        → reply_text (status Phase.Inactive seen errors aggdrops dyndrops specdrops specfails)
+        ≡ status_text (codes "null") (codes "null") (codes "inactive")
+        seen errors aggdrops dyndrops specdrops specfails }
+    ensures active { (seen : ℕ) (errors aggdrops dyndrops specdrops : List ℕ) (specfails : ℕ)
+        → reply_text (status Phase.Active seen errors aggdrops dyndrops specdrops specfails)
+        ≡ status_text (codes "null") (codes "null") (codes "active")
+        seen errors aggdrops dyndrops specdrops specfails }
+    ensures stopped { (seen : ℕ) (errors aggdrops dyndrops specdrops : List ℕ) (specfails : ℕ)
+        → reply_text (status (Phase.Stopped (Some Stop)) seen errors aggdrops dyndrops specdrops specfails)
+        ≡ status_text (codes "\"stop\"") (codes "null") (codes "stopped")
+        seen errors aggdrops dyndrops specdrops specfails }
+    ensures exited { (code : ℤ) (seen : ℕ) (errors aggdrops dyndrops specdrops : List ℕ) (specfails : ℕ)
+        → reply_text (status (Phase.Stopped (Some (Exit code))) seen errors aggdrops dyndrops specdrops specfails)
+        ≡ status_text (codes "\"exit\"") (signed_decimal code) (codes "stopped")
+        seen errors aggdrops dyndrops specdrops specfails }
+    ensures history { (seen : ℕ) (errors aggdrops dyndrops specdrops : List ℕ) (specfails : ℕ)
+        → reply_text (status (Phase.Stopped (Some History)) seen errors aggdrops dyndrops specdrops specfails)
+        ≡ status_text (codes "\"history\"") (codes "null") (codes "stopped")
+        seen errors aggdrops dyndrops specdrops specfails }
+    ensures closed { (seen : ℕ) (errors aggdrops dyndrops specdrops : List ℕ) (specfails : ℕ)
+        → reply_text (status (Phase.Stopped None) seen errors aggdrops dyndrops specdrops specfails)
+        ≡ status_text (codes "null") (codes "null") (codes "stopped")
+        seen errors aggdrops dyndrops specdrops specfails }
     ensures described { (epid : ℕ) (probe : Probe) (fields : List FieldForm)
         → reply_text (described epid probe (Some fields))
         ≡ describe_text epid probe (join_with_byte comma (map quoted_word fields)) (decimal (layout_size (Some fields))) }

@@ -61,14 +61,20 @@ pub(crate) fn status_line(
     seen: u64,
     errors: &[u64],
     aggdrops: &[u64],
+    dyndrops: &[u64],
+    specdrops: &[u64],
+    specfails: u64,
 ) -> Result<Vec<u8>, AllocError>
-    ensures { IfOk result (λ line. line.items ≡ reply_text (status phase seen errors.now aggdrops.now)) }
+    ensures { IfOk result (λ line. line.items
+        ≡ reply_text (status phase seen errors.now aggdrops.now dyndrops.now specdrops.now specfails)) }
 {
     let mut line = begun(alloc, ROOM, b"{\"aggdrops\":[")?;
     push_numbers(&mut line, aggdrops)?;
     line.extend_from_slice(b"],\"cause\":")?;
     line.extend_from_slice(cause_text(phase))?;
-    line.extend_from_slice(b",\"errors\":[")?;
+    line.extend_from_slice(b",\"dyndrops\":[")?;
+    push_numbers(&mut line, dyndrops)?;
+    line.extend_from_slice(b"],\"errors\":[")?;
     push_numbers(&mut line, errors)?;
     line.extend_from_slice(b"],\"exit\":")?;
     push_exit(&mut line, phase)?;
@@ -76,6 +82,10 @@ pub(crate) fn status_line(
     line.extend_from_slice(phase.word().as_bytes())?;
     line.extend_from_slice(b"\",\"seen\":")?;
     push_number(&mut line, seen)?;
+    line.extend_from_slice(b",\"specdrops\":[")?;
+    push_numbers(&mut line, specdrops)?;
+    line.extend_from_slice(b"],\"specfails\":")?;
+    push_number(&mut line, specfails)?;
     line.extend_from_slice(b"}\n")?;
     Ok(line)
 }

@@ -6,10 +6,11 @@ use Rattle.dt_expr.specs.Scene.{SceneForm}
 use Rattle.dt_expr.specs.declared.text.Value.TheVariants as val
 use Rattle.dt_program.specs.Clause.{ClauseForm, StatementForm}
 use Rattle.dt_program.specs.Clause as program
+use Rattle.dt_record.specs.Pasts.{TracingPast}
 use Rattle.dt_record.specs.Limits.{record_max, values_max}
 use Rattle.dt_record.specs.Taking.{TakenForm, Effect, records, gives, frames_bytes, taken_of, leaves, taking}
 use Rattle.dt_record.specs.Within.{IsWithinLimits}
-use Rattle.dt_record.proofs.Examples.{the_scene}
+use Rattle.dt_record.proofs.Examples.{the_past, the_scene}
 
 abbrev clause_of : StatementForm → ClauseForm
 clause_of statement = record { descriptions = []; predicate = None; statements = replicate 8 statement }
@@ -24,10 +25,10 @@ frames = program.stack 8
 abbrev frames_left : TakenForm
 frames_left = left_of frames (records (frames_bytes 8 the_scene.firing.kstack))
 
-pub greatest_record : (scene : SceneForm) × (clause : ClauseForm) × (left : TakenForm) × (bytes : List ℕ)
-    × IsWithinLimits clause × (taking 1 scene clause ≡ leaves left) × (left.record_bytes ≡ Some bytes)
+pub greatest_record : (scene : SceneForm) × (past : TracingPast) × (clause : ClauseForm) × (left : TakenForm)
+    × (bytes : List ℕ) × IsWithinLimits clause × ((taking 1 scene past clause).outcome ≡ leaves left) × (left.record_bytes ≡ Some bytes)
     × (length bytes ≡ record_max)
-greatest_record = (the_scene, clause_of frames, frames_left, _, within, refl, refl, refl)
+greatest_record = (the_scene, the_past, clause_of frames, frames_left, _, within, refl, refl, refl)
   where
     within : IsWithinLimits (clause_of frames)
     within = record {
@@ -43,10 +44,10 @@ abbrev values_left : TakenForm
 values_left = left_of counting (gives (val.Number (pos 1) ∷ val.Number (pos 1) ∷ val.Number (pos 1) ∷ val.Number (pos 1)
     ∷ val.Number (pos 0) ∷ []))
 
-pub most_values : (scene : SceneForm) × (clause : ClauseForm) × (left : TakenForm) × IsWithinLimits clause
-    × (taking 1 scene clause ≡ leaves left) × (length left.values ≡ values_max)
+pub most_values : (scene : SceneForm) × (past : TracingPast) × (clause : ClauseForm) × (left : TakenForm)
+    × IsWithinLimits clause × ((taking 1 scene past clause).outcome ≡ leaves left) × (length left.values ≡ values_max)
 unfolding int_wrap
-most_values = (the_scene, clause_of counting, values_left, within, refl, refl)
+most_values = (the_scene, the_past, clause_of counting, values_left, within, refl, refl)
   where
     within : IsWithinLimits (clause_of counting)
     within = record {

@@ -1,18 +1,60 @@
 -- What the statements leave, one statement more.
-use Rattle.std.proofs.Common.{◌≡◌, ℕ, List, [], ◌∷◌, ◌++◌, Bool, true, false, Option, Some, None, Result, Ok, Err}
-use Rattle.std.proofs.Common.{MatchResult, IsErr, refl, sym, ap, ◌∙◌, if◌then◌else◌}
-use Rattle.std.proofs.Math.Bool.{false≢true}
+use Rattle.std.proofs.Common.{◌≡◌, ℕ, List, [], ◌∷◌, ◌++◌, Bool, true, false, Option, Some, None, refl, sym, ap, ◌∙◌}
+use Rattle.std.proofs.Common.{if◌then◌else◌}
 use Rattle.std.proofs.lemmas.List.{append-nil, append_assoc}
 use Rattle.std.proofs.lemmas.Grind.{flat_map-append}
 use Rattle.std.specs.List.{flat_map}
 use Rattle.std.specs.Option.{option_map, option_or}
 use Rattle.dt_program.specs.Clause.{StatementForm}
-use Rattle.dt_record.specs.Forms.{form_of_taken}
-use Rattle.dt_record.specs.Taking.{Effect, TakenForm, recorded, contributed}
-use Rattle.dt_record.specs.Taking.{effect_exit, first_effect_exit, epid_bytes}
-use Rattle.dt_record.specs.Taking.{leaves_record, taken_of}
-use Rattle.dt_record.specs.declared.parts.Taken.{Taken}
+use Rattle.dt_record.specs.Left.{left_with}
+use Rattle.dt_record.specs.Taking.{Effect, TakenForm, contributed, effect_exit, effect_spec, ended_by, epid_bytes}
+use Rattle.dt_record.specs.Taking.{first_some, leaves_record, recorded, taken_of}
 use Rattle.dt_record.proofs.Each.{or_none}
+
+-- what is left by its parts
+pub by_parts : (a b : TakenForm) → a.record_bytes ≡ b.record_bytes → a.spec ≡ b.spec → a.values ≡ b.values → a.ends ≡ b.ends
+    → a.exit ≡ b.exit → a ≡ b
+by_parts a b bytes spec values ends exit = λ i. record {
+  record_bytes = bytes i;
+  spec = spec i;
+  values = values i;
+  ends = ends i;
+  exit = exit i;
+}
+
+-- ---- what an effect doesn't change
+
+pub same_bytes : (left : TakenForm) → left.record_bytes ≡ option_map (λ bytes. bytes ++ []) left.record_bytes
+same_bytes left = without left.record_bytes
+  where
+    without : (o : Option (List ℕ)) → o ≡ option_map (λ bytes. bytes ++ []) o
+    without None = refl
+    without (Some bytes) = ap (λ l. Some l) (sym (append-nil bytes))
+
+pub same_spec : (left : TakenForm) → left.spec ≡ option_or left.spec None
+same_spec left = sym (or_none left.spec)
+
+pub same_values : (left : TakenForm) → left.values ≡ left.values ++ []
+same_values left = sym (append-nil left.values)
+
+pub same_ends : (left : TakenForm) → left.ends ≡ left.ends ++ []
+same_ends left = sym (append-nil left.ends)
+
+pub same_exit : (left : TakenForm) → left.exit ≡ option_or left.exit None
+same_exit left = sym (or_none left.exit)
+
+-- an effect that leaves nothing
+pub same_left : (left : TakenForm) (effect : Effect) → recorded effect ≡ [] → effect_spec effect ≡ None
+    → contributed effect ≡ [] → ended_by effect ≡ [] → effect_exit effect ≡ None → left ≡ left_with left effect
+same_left left effect bytes spec values ends exit =
+    by_parts left (left_with left effect)
+    (same_bytes left ∙ ap (λ more. option_map (λ bytes. bytes ++ more) left.record_bytes) (sym bytes))
+    (same_spec left ∙ ap (option_or left.spec) (sym spec))
+    (same_values left ∙ ap (λ more. left.values ++ more) (sym values))
+    (same_ends left ∙ ap (λ more. left.ends ++ more) (sym ends))
+    (same_exit left ∙ ap (option_or left.exit) (sym exit))
+
+-- ---- one effect more
 
 flat_more : {A : Type 0} (f : Effect → List A) (effects : List Effect) (effect : Effect)
     → flat_map f effects ++ f effect ≡ flat_map f (effects ++ effect ∷ [])
@@ -23,12 +65,11 @@ or_or : {A : Type 0} (a b c : Option A) → option_or (option_or a b) c ≡ opti
 or_or None b c = refl
 or_or (Some x) b c = refl
 
-exit_more : (effects : List Effect) (effect : Effect)
-    → option_or (first_effect_exit effects) (effect_exit effect) ≡ first_effect_exit (effects ++ effect ∷ [])
-exit_more [] effect = sym (or_none (effect_exit effect))
-exit_more (first ∷ effects) effect =
-    or_or (effect_exit first) (first_effect_exit effects) (effect_exit effect)
-    ∙ ap (option_or (effect_exit first)) (exit_more effects effect)
+first_more : {A : Type 0} (f : Effect → Option A) (effects : List Effect) (effect : Effect)
+    → option_or (first_some f effects) (f effect) ≡ first_some f (effects ++ effect ∷ [])
+first_more f [] effect = sym (or_none (f effect))
+first_more f (first ∷ effects) effect =
+    or_or (f first) (first_some f effects) (f effect) ∙ ap (option_or (f first)) (first_more f effects effect)
 
 -- the record, where there is one
 bytes_more : (leaves : Bool) (epid : ℕ) (effects : List Effect) (effect : Effect)
@@ -40,34 +81,18 @@ bytes_more true epid effects effect =
     ap (λ l. Some l) (append_assoc (epid_bytes epid) (flat_map recorded effects) (recorded effect)
     ∙ ap (λ l. epid_bytes epid ++ l) (flat_more recorded effects effect))
 
--- what is left by its parts
-pub by_parts : (a b : TakenForm) → a.record_bytes ≡ b.record_bytes → a.values ≡ b.values → a.exit ≡ b.exit → a ≡ b
-by_parts a b e f g =
-    ap (λ bytes. record { record_bytes = bytes; values = a.values; exit = a.exit }) e
-    ∙ ap (λ values. record { record_bytes = b.record_bytes; values = values; exit = a.exit }) f
-    ∙ ap (λ exit. record { record_bytes = b.record_bytes; values = b.values; exit = exit }) g
-
 pub left-more : (epid : ℕ) (statements : List StatementForm) (effects : List Effect) (effect : Effect)
-    (old new : Taken)
-    → form_of_taken old ≡ taken_of epid statements effects
-    → (form_of_taken new).record_bytes
-    ≡ option_map (λ bytes. bytes ++ recorded effect) (form_of_taken old).record_bytes
-    → new.values.items ≡ old.values.items ++ contributed effect
-    → new.exit ≡ option_or old.exit (effect_exit effect)
-    → form_of_taken new ≡ taken_of epid statements (effects ++ effect ∷ [])
-left-more epid statements effects effect old new left bytes values exit =
-    by_parts (form_of_taken new) (taken_of epid statements (effects ++ effect ∷ []))
-    (bytes ∙ ap (λ (f : TakenForm). option_map (λ bytes. bytes ++ recorded effect) f.record_bytes) left
-    ∙ bytes_more (leaves_record statements) epid effects effect)
-    (values ∙ ap (λ (f : TakenForm). f.values ++ contributed effect) left ∙ flat_more contributed effects effect)
-    (exit ∙ ap (λ (f : TakenForm). option_or f.exit (effect_exit effect)) left ∙ exit_more effects effect)
+    → left_with (taken_of epid statements effects) effect ≡ taken_of epid statements (effects ++ effect ∷ [])
+left-more epid statements effects effect =
+    by_parts (left_with (taken_of epid statements effects) effect) (taken_of epid statements (effects ++ effect ∷ []))
+    (bytes_more (leaves_record statements) epid effects effect)
+    (first_more effect_spec effects effect)
+    (flat_more contributed effects effect)
+    (flat_more ended_by effects effect)
+    (first_more effect_exit effects effect)
 
--- a statement that records nothing
-pub no-bytes : (o : Option (List ℕ)) → o ≡ option_map (λ bytes. bytes ++ []) o
-no-bytes None = refl
-no-bytes (Some bytes) = ap (λ l. Some l) (sym (append-nil bytes))
-
--- an answer that is an error
-pub match_err : {T E P : Type 0} (Q : T → Type 0) (r : Result T E) → IsErr r → P → MatchResult r Q (λ _. P)
-match_err Q (Ok x) h p = absurd (false≢true h)
-match_err Q (Err e) h p = p
+-- the EPID alone
+pub left-first : (leaves : Bool) (epid : ℕ) → (if leaves then Some (epid_bytes epid) else None)
+    ≡ (if leaves then Some (epid_bytes epid ++ []) else None)
+left-first true epid = ap (λ l. Some l) (sym (append-nil (epid_bytes epid)))
+left-first false epid = refl

@@ -1,4 +1,5 @@
 -- The lemmas of this crate.
+pub mod Adding
 pub mod Bytes
 pub mod Each
 pub mod Examples
@@ -7,4 +8,5 @@ pub mod Fitting
 pub mod Greatest
 pub mod LeftMore
 pub mod Loops
+pub mod Performances
 pub mod Unique

@@ -2,7 +2,10 @@
 
 -- What is promised.
 pub mod Limits
+pub mod Pasts
+pub mod TracingAt
 pub mod Taking
+pub mod Performance
 pub mod Forms
 pub mod Layout
 pub mod Fields

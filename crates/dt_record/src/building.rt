@@ -4,6 +4,8 @@ ghost use Rattle.std.specs.Option.{option_map};
 ghost use Rattle.arrayvec.specs.ArrayVec.{array_vec_len};
 ghost use Rattle.dt_expr.specs.Scene.{scene_of};
 ghost use Rattle.dt_expr.specs.declared.text.Value.{Value as ShownValue};
+ghost use Rattle.dt_locals.specs.History.{LocalsPast};
+ghost use Rattle.dt_locals.specs.LocalsAreAt.{LocalsAreAt};
 ghost use Rattle.dt_program.specs.Clause.{form_of_argument};
 ghost use Rattle.dt_cred.specs.declared.firing.TheConstants.{FRAMES};
 ghost use Rattle.dt_names.specs.declared.short_text.TheConstants.{PADDED_SIZE};
@@ -17,6 +19,7 @@ use arrayvec::ArrayVec;
 use byteorder::{BigEndian, ByteOrder};
 use dt_cred::FRAMES;
 use dt_expr::{EvalFault, Scene, eval};
+use dt_locals::Locals;
 use dt_program::{Argument, Frames};
 
 /// The bytes of a record.
@@ -52,17 +55,19 @@ pub(crate) fn put_argument(
     record: &mut Option<Bytes>,
     argument: &Argument,
     scene: &Scene,
+    locals: &Locals,
 ) -> Result<(), EvalFault>
     requires { record_len record.old + PADDED_SIZE ≤ RECORD_MAX }
-    ensures written { OnOk result ((value : ShownValue)
-        × (argument_value (scene_of scene.now) (form_of_argument argument.now) ≡ Some value)
+    ensures written { OnOk result ((past : LocalsPast) → LocalsAreAt past locals.now → (value : ShownValue)
+        × (argument_value (scene_of scene.now) past (form_of_argument argument.now) ≡ Some value)
         × (bytes_of record.new ≡ option_map (λ bytes. bytes ++ value_bytes value) (bytes_of record.old))) }
     ensures grows { OnOk result (record_len record.new ≤ record_len record.old + PADDED_SIZE) }
-    ensures fault { OnErr result (argument_value (scene_of scene.now) (form_of_argument argument.now) ≡ None) }
+    ensures fault { OnErr result ((past : LocalsPast) → LocalsAreAt past locals.now
+        → argument_value (scene_of scene.now) past (form_of_argument argument.now) ≡ None) }
 {
     match argument {
         Argument::Number(expr) => {
-            let number = eval(expr, scene)?;
+            let number = eval(expr, scene, locals)?;
             put_number(record, number);
         }
         Argument::Text(text) => put(record, shown(text, scene)),

@@ -1,8 +1,10 @@
 //! Records: what a clause leaves where it is taken, and records back from their bytes.
 //!
 //! `Taken::take` leaves what the definition `taking` in `specs/Taking.antt` gives a clause in a scene: its record's
-//! bytes, what its aggregating statements give, and the status of its first exit; or nothing where the predicate is
-//! 0; or the fault that abandons the clause. `taken` does so for one clause alone. Neither takes memory. `Layout`
+//! bytes and the speculation that they are directed to, what its aggregating statements give, the speculations that it ends, and the
+//! status of its first exit; or nothing where the predicate is 0; or the fault that abandons the clause. On the way it assigns to
+//! thread-local variables and draws identifiers, which later statements see. `taken` does so for one clause alone. Neither takes
+//! memory. `Layout`
 //! says of what a clause's record is made, and `split` gives the records that bytes are, one after the other
 //! (`IsSplit` in `specs/Split.antt`), of which there is one list at most (`one_split`). What a clause leaves is a record
 //! of its layout (`records_fit`, over the definitions of `specs/Showing.antt`), and so is split again (`left_is_split`).
@@ -22,11 +24,14 @@ mod splitting;
 mod taking;
 mod values;
 
-pub use laws::{left_is_limited, left_is_split, one_split, records_fit, records_have_lengths};
+pub use laws::{
+    assignments_fit, left_is_limited, left_is_split, one_performance, one_split, records_fit,
+    records_have_lengths,
+};
 pub use layout::{Field, Layout};
 pub use limit_laws::limits_agree;
 pub use limits::{EPID_SIZE, RECORD_MAX, VALUES_MAX};
-pub use parts::Taken;
+pub use parts::{SpecEnd, Taken};
 pub use recorded::{Record, Recorded};
 pub use recording::leaves_record;
 pub use splitting::split;

@@ -6,31 +6,34 @@ ghost use Rattle.dt_record.specs.Taking as spec;
 
 use dt_program::{Clause, Statement};
 
-/// Whether a statement puts something into the record.
-fn is_recording(statement: &Statement) -> bool
-    ensures { result ≡ spec.is_recording (form_of_statement statement.now) }
+/// Whether a statement puts something into the record, or directs the record to a speculation.
+fn asks_for_record(statement: &Statement) -> bool
+    ensures { result ≡ spec.asks_for_record (form_of_statement statement.now) }
 {
     matches!(
         statement,
-        Statement::Trace(_) | Statement::Stack(_) | Statement::Ustack(_)
+        Statement::Trace(_) | Statement::Stack(_) | Statement::Ustack(_) | Statement::Speculate(_)
     )
 }
 
-/// Whether one of the statements puts something into the record.
-fn any_records(statements: &[Statement]) -> bool
-    ensures { result ≡ list_any (λ statement. spec.is_recording (form_of_statement statement)) statements.now }
+/// Whether one of the statements does so.
+fn any_asks(statements: &[Statement]) -> bool
+    ensures { result ≡ list_any (λ statement. spec.asks_for_record (form_of_statement statement)) statements.now }
 {
-    statements.iter().any(|statement| is_recording(statement))
+    statements
+        .iter()
+        .any(|statement| asks_for_record(statement))
 }
 
-/// Whether statements leave a record: one of them records something, or there is none.
+/// Whether statements leave a record: one of them records something or directs the record to a speculation, or there is none.
 fn leave_record(statements: &[Statement]) -> bool
     ensures { result ≡ spec.leaves_record (map form_of_statement statements.now) }
 {
-    statements.is_empty() || any_records(statements)
+    statements.is_empty() || any_asks(statements)
 }
 
-/// Whether a clause leaves a record where it is taken: one of its statements records something, or it has none.
+/// Whether a clause leaves a record where it is taken: one of its statements records something or directs the record to a
+/// speculation, or it has none.
 pub fn leaves_record(clause: &Clause) -> bool
     ensures { result ≡ spec.leaves_record (form_of_clause clause.now).statements }
 {

@@ -3,6 +3,8 @@ ghost use Rattle.std.specs.Prelude.{◌≡◌, ◌+◌, ◌≤◌, ◌++◌, Lis
 ghost use Rattle.arrayvec.specs.ArrayVec.{array_vec_len};
 ghost use Rattle.dt_expr.specs.Scene.{scene_of, padded, text_bytes};
 ghost use Rattle.dt_expr.specs.declared.text.Value.{Value as ShownValue};
+ghost use Rattle.dt_locals.specs.History.{LocalsPast};
+ghost use Rattle.dt_locals.specs.LocalsAreAt.{LocalsAreAt};
 ghost use Rattle.dt_program.specs.Clause.{form_of_argument, form_of_call};
 ghost use Rattle.dt_record.specs.Taking as spec;
 ghost use Rattle.dt_record.specs.Taking.{each};
@@ -11,6 +13,7 @@ ghost use Rattle.dt_record.specs.declared.limits.TheConstants.{VALUES_MAX};
 use crate::limits::VALUES_MAX;
 use arrayvec::ArrayVec;
 use dt_expr::{EvalFault, Scene, Text, TextVariable, Value, eval};
+use dt_locals::Locals;
 use dt_names::PADDED_SIZE;
 use dt_program::{Argument, Call};
 
@@ -29,22 +32,22 @@ pub(crate) fn shown<'a>(text: &'a Text, scene: &Scene<'a>) -> &'a [u8; PADDED_SI
 }
 
 /// The value of an argument.
-fn value_of(argument: &Argument, scene: &Scene) -> Result<Value, EvalFault>
-    ensures { MatchResult result
-        (λ value. spec.argument_value (scene_of scene.now) (form_of_argument argument.now) ≡ Some value)
-        (λ _. spec.argument_value (scene_of scene.now) (form_of_argument argument.now) ≡ None) }
+fn value_of(argument: &Argument, scene: &Scene, locals: &Locals) -> Result<Value, EvalFault>
+    ensures { (past : LocalsPast) → LocalsAreAt past locals.now → MatchResult result
+        (λ value. spec.argument_value (scene_of scene.now) past (form_of_argument argument.now) ≡ Some value)
+        (λ _. spec.argument_value (scene_of scene.now) past (form_of_argument argument.now) ≡ None) }
 {
     match argument {
-        Argument::Number(expr) => Ok(Value::Number(eval(expr, scene)?)),
+        Argument::Number(expr) => Ok(Value::Number(eval(expr, scene, locals)?)),
         Argument::Text(text) => Ok(text.value(scene)),
     }
 }
 
 /// What an aggregation is given.
-pub(crate) fn given(call: &Call, scene: &Scene) -> Result<Value, EvalFault>
-    ensures { MatchResult result
-        (λ value. spec.given (scene_of scene.now) (form_of_call call.now) ≡ Some value)
-        (λ _. spec.given (scene_of scene.now) (form_of_call call.now) ≡ None) }
+pub(crate) fn given(call: &Call, scene: &Scene, locals: &Locals) -> Result<Value, EvalFault>
+    ensures { (past : LocalsPast) → LocalsAreAt past locals.now → MatchResult result
+        (λ value. spec.given (scene_of scene.now) past (form_of_call call.now) ≡ Some value)
+        (λ _. spec.given (scene_of scene.now) past (form_of_call call.now) ≡ None) }
 {
     match call {
         Call::Count => Ok(Value::Number(0)),
@@ -53,7 +56,7 @@ pub(crate) fn given(call: &Call, scene: &Scene) -> Result<Value, EvalFault>
         | Call::Min(expr)
         | Call::Max(expr)
         | Call::Quantize(expr)
-        | Call::Lquantize(expr, _) => Ok(Value::Number(eval(expr, scene)?)),
+        | Call::Lquantize(expr, _) => Ok(Value::Number(eval(expr, scene, locals)?)),
     }
 }
 
@@ -62,15 +65,18 @@ pub(crate) fn put_keys(
     values: &mut ArrayVec<Value, VALUES_MAX>,
     keys: &[Argument],
     scene: &Scene,
+    locals: &Locals,
 ) -> Result<(), EvalFault>
     requires { array_vec_len values.old + length keys.now ≤ VALUES_MAX }
-    ensures given { OnOk result ((given : List ShownValue)
-        × (each (spec.argument_value (scene_of scene.now)) (map form_of_argument keys.now) ≡ Some given)
+    ensures long { OnOk result (array_vec_len values.new ≡ array_vec_len values.old + length keys.now) }
+    ensures given { OnOk result ((past : LocalsPast) → LocalsAreAt past locals.now → (given : List ShownValue)
+        × (each (spec.argument_value (scene_of scene.now) past) (map form_of_argument keys.now) ≡ Some given)
         × (values.new.items ≡ values.old.items ++ given)) }
-    ensures fault { OnErr result (each (spec.argument_value (scene_of scene.now)) (map form_of_argument keys.now) ≡ None) }
+    ensures fault { OnErr result ((past : LocalsPast) → LocalsAreAt past locals.now
+        → each (spec.argument_value (scene_of scene.now) past) (map form_of_argument keys.now) ≡ None) }
 {
     for key in keys {
-        values.push(value_of(key, scene)?);
+        values.push(value_of(key, scene, locals)?);
     }
     Ok(())
 }

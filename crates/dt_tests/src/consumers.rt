@@ -209,6 +209,7 @@ fn spelled(alloc: Global, reply: &Reply) -> Result<String, Fail> {
             seen,
             errors,
             aggdrops,
+            ..
         } => {
             let mut text = format!(in alloc; "{phase:?} {seen}")?;
             for count in errors {

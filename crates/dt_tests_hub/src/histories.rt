@@ -29,7 +29,7 @@ const ROWS: &str =
 const STATUS: &str = r#"{"cmd":"status"}"#;
 
 const ENDED: &str =
-    "{\"aggdrops\":[0,0],\"cause\":\"history\",\"errors\":[0,0],\"exit\":null,\"ok\":true,\"phase\":\"stopped\",\"seen\":65537}\n";
+    "{\"aggdrops\":[0,0],\"cause\":\"history\",\"dyndrops\":[0,0],\"errors\":[0,0],\"exit\":null,\"ok\":true,\"phase\":\"stopped\",\"seen\":65537,\"specdrops\":[0,0],\"specfails\":0}\n";
 
 /// A machine's text: its head, and then for each processor a script that repeats the same firings.
 pub(crate) fn with_scripts(

@@ -27,7 +27,7 @@ const TWO_FIRINGS: &str = r#"{"cmd":"option","name":"histsize","value":2}"#;
 const STATUS: &str = r#"{"cmd":"status"}"#;
 
 const ENDED: &str =
-    "{\"aggdrops\":[0,0],\"cause\":\"history\",\"errors\":[0,0],\"exit\":null,\"ok\":true,\"phase\":\"stopped\",\"seen\":2}\n";
+    "{\"aggdrops\":[0,0],\"cause\":\"history\",\"dyndrops\":[0,0],\"errors\":[0,0],\"exit\":null,\"ok\":true,\"phase\":\"stopped\",\"seen\":2,\"specdrops\":[0,0],\"specfails\":0}\n";
 
 /// More firings than any session of these tests sees.
 pub(crate) const MANY: u64 = 1_000;

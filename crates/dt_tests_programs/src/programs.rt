@@ -2,10 +2,12 @@
 use dt_cred::{Mode, Probe, Process};
 use dt_expr::{Expr, NumberVariable, Scene, TextVariable, eval};
 use dt_lang::{
-    Action, Argument, Destructive, Function, LangFault, ParseProgram, Program, Statement, Word,
+    Action, Argument, Destructive, Function, Keyword, LangFault, ParseProgram, Program, Statement,
+    Word,
 };
+use dt_locals::Locals;
 use dt_machine::Firing;
-use dt_names::{ProbeTuple, ShortText};
+use dt_names::{Name, ProbeTuple, ShortText};
 use std::alloc::Global;
 use std::test::Fail;
 
@@ -59,7 +61,6 @@ Probe 6|BEGIN,[]{}
 Probe 8|BEGIN/1/[a{}
 Action 6|BEGIN{print(1)}
 Action 6|BEGIN{count()}
-Action 6|BEGIN{self->x=1}
 Action 7|BEGIN{;pid}
 Action 8|BEGIN{@=trace(1)}
 Action 9|BEGIN{@a=panic()}
@@ -67,7 +68,6 @@ Variable 12|BEGIN{trace(foo)}
 Variable 14|BEGIN{trace(1+arg10)}
 Variable 22|BEGIN{trace(execname==foo)}
 Variable 6|BEGIN/panic/{}
-Variable 8|BEGIN{@[self]=count()}
 Variable 73|BEGIN{exit(|31|1+|foo)}
 TooLong 512||100|BEGIN{} |
 TooLong 512||64|BEGIN{} |[a
@@ -86,6 +86,56 @@ TooLong 17|BEGIN{@a[1,2,3,4,foo]=count()}
 TooLong 6|BEGIN{@|32|a|=count()}
 TooLong 12|BEGIN{trace(\"|32|a|
 TooLong 14|BEGIN{trace(1+\"|32|a|\")}
+read|read:entry{self->n = self->n + 1; trace(self->n)}
+read|read:entry{self->s = speculation(); speculate(self->s); trace(arg0)}
+read|BEGIN/self->x/{commit(1);commit(2);discard(3);exit(1);@a=count()}
+read|BEGIN{speculate(1);trace(1);stack(1);ustack(1);discard(1);self->x=0}
+read|BEGIN{discard(1);speculate(1)}
+read|BEGIN{speculate(1)}BEGIN{speculate(1)}
+read|BEGIN{self->panic=self->pid+self->count}
+read|BEGIN{@[self->self]=sum(self -> speculation)}
+read|BEGIN{self->|31|a|=1}
+read|BEGIN{trace(|61|-|self->x)}
+Spec 20|read:entry{trace(1);speculate(1)}
+Spec 21|read:entry{commit(1);trace(2)}
+Spec 19|BEGIN{speculate(1);speculate(2)}
+Spec 19|BEGIN{speculate(1);commit(1)}
+Spec 19|BEGIN{speculate(1);exit(1)}
+Spec 19|BEGIN{speculate(1);@=count()}
+Spec 16|BEGIN{commit(1);speculate(1)}
+Spec 14|BEGIN{exit(1);speculate(1)}
+Spec 17|BEGIN{@a=count();speculate(1)}
+Spec 15|BEGIN{stack(1);speculate(1)}
+Spec 16|BEGIN{ustack(1);commit(1)}
+Spec 16|BEGIN{commit(1);ustack(1)}
+Spec 19|BEGIN{speculate(1);speculate foo
+Spec 30|BEGIN{speculate(1);discard(1);commit(1)}
+TooLong 12|BEGIN{self->|32|a|=1}
+TooLong 18|BEGIN{trace(self->|32|a|)}
+TooLong 80|BEGIN{trace(|62|-|self->x)}
+TooLong 80|BEGIN{trace(|62|-|self->aaaaaaaaaaaaaaaaaaaaaaaaaaaaaaaa)}
+TooLong 70|BEGIN{|8|exit(0);|self->x=1}
+TooLong 71|BEGIN{trace(1);|7|exit(0);|speculate(1)}
+Syntax 80|BEGIN{trace(|62|-|self->5)}
+Syntax 10|BEGIN{self}
+Syntax 16|BEGIN{trace(self)}
+Syntax 12|BEGIN{@[self]=count()}
+Syntax 12|BEGIN{self->}
+Syntax 13|BEGIN{self->x}
+Syntax 14|BEGIN{self->x=}
+Syntax 13|BEGIN{self->x==1}
+Syntax 19|BEGIN{trace(self->x->y)}
+Syntax 13|BEGIN{trace(1->2)}
+Syntax 22|BEGIN{trace(execname==self->x)}
+Syntax 25|BEGIN{self->x=speculation+1}
+Syntax 26|BEGIN{self->x=speculation(1)}
+Syntax 27|BEGIN{self->x=speculation()+1}
+Syntax 16|BEGIN{self->x=1 panic()}
+Variable 12|BEGIN{trace(speculation())}
+Variable 15|BEGIN{self->x=(speculation())}
+Variable 16|BEGIN{self->x=1+speculation()}
+Variable 14|BEGIN{self->x=panic()}
+Action 6|BEGIN{speculation()}
 Range 27|BEGIN{@a=lquantize(1,0,10,3)}
 Range 23|BEGIN{@=lquantize(1,5,5)}
 Range 25|BEGIN{@=lquantize(1,0,513)}
@@ -264,7 +314,8 @@ execname == \"shell\" && probefunc != \"read\" -> 0
 /***/1 -> 1
 1/*\"*/+1 -> 2
 !~1 -> 0
-2->1 -> no 14
+2->1 -> no 13
+self->x + 1 -> 1
 1|||2 -> no 15
 \"\" -> text
 \"a/*b\" -> text
@@ -412,15 +463,15 @@ fn expected_of(outcome: &str) -> Option<Outcome> {
     }
 }
 
-fn value_of(expr: &Expr, scene: &Scene) -> Outcome {
-    match eval(expr, scene) {
+fn value_of(expr: &Expr, scene: &Scene, locals: &Locals) -> Outcome {
+    match eval(expr, scene, locals) {
         Ok(number) => Outcome::Number(number),
         Err(_) => Outcome::Fault,
     }
 }
 
 /// What the predicate of a text's first clause comes to, or where there is none what its first statement traces.
-fn outcome_of(alloc: Global, scene: &Scene, text: &str) -> Option<Outcome> {
+fn outcome_of(alloc: Global, scene: &Scene, locals: &Locals, text: &str) -> Option<Outcome> {
     let program = match parsed(alloc, text.as_bytes()) {
         Ok(program) => program,
         Err(LangFault::Program { at, .. }) => return Some(Outcome::Refused(at)),
@@ -428,8 +479,10 @@ fn outcome_of(alloc: Global, scene: &Scene, text: &str) -> Option<Outcome> {
     };
     let clause = program.clauses.first()?;
     match (&clause.predicate, clause.statements.first()) {
-        (Some(predicate), _) => Some(value_of(predicate, scene)),
-        (None, Some(Statement::Trace(Argument::Number(traced)))) => Some(value_of(traced, scene)),
+        (Some(predicate), _) => Some(value_of(predicate, scene, locals)),
+        (None, Some(Statement::Trace(Argument::Number(traced)))) => Some(value_of(
+            traced, scene, locals,
+        )),
         (None, Some(Statement::Trace(Argument::Text(_)))) => Some(Outcome::Text),
         (None, _) => None,
     }
@@ -439,6 +492,7 @@ fn outcome_of(alloc: Global, scene: &Scene, text: &str) -> Option<Outcome> {
 fn first_wrong(
     alloc: Global,
     scene: &Scene,
+    locals: &Locals,
     table: &'static str,
     before: &str,
     after: &str,
@@ -447,7 +501,7 @@ fn first_wrong(
         if let Some((words, outcome)) = line.split_once(" -> ") {
             let text = format!(in alloc; "{before}{words}{after}")?;
             let expected = expected_of(outcome);
-            if expected.is_none() || outcome_of(alloc, scene, text.as_str()) != expected {
+            if expected.is_none() || outcome_of(alloc, scene, locals, text.as_str()) != expected {
                 return Ok(Some(line));
             }
         }
@@ -490,22 +544,33 @@ fn expressions_come_to_what_the_tables_say(rt: HostRuntime) -> Result<(), Fail> 
         process: &process,
         firing: &firing,
     };
-    let traced = first_wrong(rt.alloc(), &scene, EXPRESSIONS, "BEGIN{trace(", ")}")?;
+    let locals = Locals::new(rt.alloc(), 65_536)?;
+    let traced = first_wrong(
+        rt.alloc(),
+        &scene,
+        &locals,
+        EXPRESSIONS,
+        "BEGIN{trace(",
+        ")}",
+    )?;
     assert_eq!(rt; traced, None);
-    let predicates = first_wrong(rt.alloc(), &scene, PREDICATES, "BEGIN/", "/{}")?;
+    let predicates = first_wrong(rt.alloc(), &scene, &locals, PREDICATES, "BEGIN/", "/{}")?;
     assert_eq!(rt; predicates, None);
     Ok(())
 }
 
 #[test]
 fn knows_the_words(rt: HostRuntime) {
-    let rows: [(&[u8], Word); 7] = [
+    let rows: [(&[u8], Word); 10] = [
         (b"ustack", Word::Action(Action::Ustack)),
         (b"lquantize", Word::Function(Function::Lquantize)),
         (b"copyoutstr", Word::Destructive(Destructive::Copyoutstr)),
         (b"arg9", Word::Number(NumberVariable::Arg9)),
         (b"probemod", Word::Text(TextVariable::Probemod)),
-        (b"Trace", Word::Unknown(ShortText::new(b"Trace"))),
+        (b"speculate", Word::Action(Action::Speculate)),
+        (b"self", Word::Keyword(Keyword::ThreadLocal)),
+        (b"speculation", Word::Keyword(Keyword::Speculation)),
+        (b"Trace", Word::Unknown(Name::new(b"Trace"))),
         (b"a_name_that_takes_32_bytes_to_be", Word::Unknown(None)),
     ];
     for (name, word) in rows {

@@ -2,14 +2,17 @@
 use dt_cred::{Mode, Probe, Process};
 use dt_expr::{Scene, Value};
 use dt_lang::{ParseProgram, Program};
+use dt_locals::Locals;
 use dt_machine::Firing;
 use dt_names::{ProbeTuple, ShortText};
-use dt_record::{Layout, Taken, split, taken};
+use dt_record::{Layout, SpecEnd, Taken, split, taken};
+use dt_speculation::Specs;
 use std::alloc::Global;
 use std::test::Fail;
 
 /// In each line a clause and what it leaves of the firing: its record in hexadecimal digits, `-` for none; then `=` and each
-/// number that it gives, `exit` and a status. Or `passed` where its predicate is 0, and `fault` where it is abandoned.
+/// number that it gives, `spec` and the identifier that the record is directed to, `commit` or `discard` and one whose speculation it ends, `exit` and a status. There is
+/// room for two variables and one speculation. Or `passed` where its predicate is 0, and `fault` where it is abandoned.
 const CLAUSES: &str = r#"
 a{} => 00000005
 a{;;} => 00000005
@@ -28,6 +31,17 @@ a{exit(3);exit(4)} => - exit 3
 a{trace(1);exit(2)} => 000000050000000000000001 exit 2
 a{@n[arg0,execname]=sum(5);@m=count()} => - = 7 = 5 = 0
 a{trace(arg0)} => 000000050000000000000007
+a{self->n = 3; trace(self->n)} => 000000050000000000000003
+a{self->n = self->n + 1; self->n = self->n + 1; trace(self->n)} => 000000050000000000000002
+a{self->a = 1; self->b = 2; self->c = 3; trace(self->c)} => 000000050000000000000000
+a{self->n = 3; self->n = 0} => -
+a/self->n == 0/{@n[self->n] = sum(self->m)} => - = 0 = 0
+a{self->s = speculation(); self->t = speculation(); trace(self->s); trace(self->t)} => 0000000500000000000000010000000000000000
+a{speculate(arg0)} => 00000005 spec 7
+a{speculate(-1);trace(2)} => 000000050000000000000002 spec 0
+a{commit(1);discard(-3);commit(arg0)} => - commit 1 discard 0 commit 7
+a{commit(1);exit(4)} => - commit 1 exit 4
+a{self->n = 1; commit(1); self->m = 1 / arg1} => fault
 "#;
 
 /// What a clause left, in the words of the table.
@@ -39,6 +53,15 @@ fn words_of(alloc: Global, left: &Taken) -> Result<String, Fail> {
     for value in left.values.as_slice() {
         if let Value::Number(number) = value {
             words.push_str(&format!(in alloc; " = {number}")?)?;
+        }
+    }
+    if let Some(id) = left.spec {
+        words.push_str(&format!(in alloc; " spec {id}")?)?;
+    }
+    for end in left.ends.as_slice() {
+        match end {
+            SpecEnd::Commit(id) => words.push_str(&format!(in alloc; " commit {id}")?)?,
+            SpecEnd::Discard(id) => words.push_str(&format!(in alloc; " discard {id}")?)?,
         }
     }
     if let Some(status) = left.exit {
@@ -62,7 +85,10 @@ fn parsed(alloc: Global, text: &str) -> Result<Program, Fail> {
 /// What the clause of a text leaves.
 fn told(alloc: Global, text: &str, scene: &Scene) -> Result<String, Fail> {
     let program = parsed(alloc, text)?;
-    match taken(5, program.clauses.first().ok_or("no clause")?, scene) {
+    let mut locals = Locals::new(alloc, 64)?;
+    let mut specs = Specs::new(alloc, 1, 64, 1)?;
+    let clause = program.clauses.first().ok_or("no clause")?;
+    match taken(5, clause, scene, &mut locals, &mut specs) {
         Ok(Some(left)) => words_of(alloc, &left),
         Ok(None) => Ok(String::from_str(alloc, "passed")?),
         Err(_) => Ok(String::from_str(alloc, "fault")?),
@@ -72,7 +98,10 @@ fn told(alloc: Global, text: &str, scene: &Scene) -> Result<String, Fail> {
 /// What it leaves in place of what the clauses before it left.
 fn told_again(alloc: Global, text: &str, scene: &Scene, left: &mut Taken) -> Result<String, Fail> {
     let program = parsed(alloc, text)?;
-    match left.take(5, program.clauses.first().ok_or("no clause")?, scene) {
+    let mut locals = Locals::new(alloc, 64)?;
+    let mut specs = Specs::new(alloc, 1, 64, 1)?;
+    let clause = program.clauses.first().ok_or("no clause")?;
+    match left.take(5, clause, scene, &mut locals, &mut specs) {
         Ok(true) => words_of(alloc, left),
         Ok(false) => Ok(String::from_str(alloc, "passed")?),
         Err(_) => Ok(String::from_str(alloc, "fault")?),

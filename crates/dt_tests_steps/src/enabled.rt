@@ -51,7 +51,7 @@ const SHARED_ANSWERS: &str = r#"0 {"count":1,"first":1,"ok":true}
 1 {"count":2,"first":1,"ok":true}
 0 {"ok":true}
 1 {"ok":true}
-1 {"aggdrops":[0,0],"cause":"exit","errors":[0,0],"exit":9,"ok":true,"phase":"stopped","seen":1}
+1 {"aggdrops":[0,0],"cause":"exit","dyndrops":[0,0],"errors":[0,0],"exit":9,"ok":true,"phase":"stopped","seen":1,"specdrops":[0,0],"specfails":0}
 1 {"ok":true}
 1 {"count":1,"first":1,"ok":true}
 1 {"ok":true}

@@ -95,8 +95,8 @@ fn counted(alloc: Global, seen: u32) -> Result<String, Fail> {
         "0 {{\"fn\":\"count\",\"name\":\"\",\"ok\":true,\"rows\":[{{\"key\":[],\"value\":{seen}}}]}}\n"
     )?;
     text.push_str(
-        "9 {\"aggdrops\":[0,0],\"cause\":null,\"errors\":[0,0],\"exit\":null,\"ok\":true,\"phase\":\"active\",\"seen\":",
+        "9 {\"aggdrops\":[0,0],\"cause\":null,\"dyndrops\":[0,0],\"errors\":[0,0],\"exit\":null,\"ok\":true,\"phase\":\"active\",\"seen\":",
     )?;
-    text.push_str(format!(in alloc; "{seen}}}\n")?.as_str())?;
+    text.push_str(format!(in alloc; "{seen},\"specdrops\":[0,0],\"specfails\":0}}\n")?.as_str())?;
     Ok(text)
 }

@@ -135,7 +135,7 @@ call 0 {"cmd": "snap", "cpu": 0}
         r#"0 {"ok":true}
 0 {"count":1,"first":1,"ok":true}
 0 {"ok":true}
-0 {"aggdrops":[0,0],"cause":"history","errors":[0,0],"exit":null,"ok":true,"phase":"stopped","seen":2}
+0 {"aggdrops":[0,0],"cause":"history","dyndrops":[0,0],"errors":[0,0],"exit":null,"ok":true,"phase":"stopped","seen":2,"specdrops":[0,0],"specfails":0}
 0 {"cpu":0,"data":"000000010000000000000064000000010000000000000064","drops":0,"filled":false,"ok":true}
 "#,
     ),
@@ -152,7 +152,7 @@ call 0 {"cmd": "go"}
 "#,
         r#"0 {"count":2,"first":1,"ok":true}
 0 {"ok":true}
-0 {"aggdrops":[0,0],"cause":"exit","errors":[0,0],"exit":3,"ok":true,"phase":"stopped","seen":0}
+0 {"aggdrops":[0,0],"cause":"exit","dyndrops":[0,0],"errors":[0,0],"exit":3,"ok":true,"phase":"stopped","seen":0,"specdrops":[0,0],"specfails":0}
 0 {"cpu":0,"data":"000000020000000000000001","drops":0,"filled":false,"ok":true}
 0 {"error":10,"name":"Busy"}
 "#,
@@ -183,7 +183,7 @@ call 0 {"cmd": "describe", "epid": 2}
 0 {"error":10,"name":"Busy"}
 0 {"ok":true}
 0 {"error":10,"name":"Busy"}
-0 {"aggdrops":[0,0],"cause":"stop","errors":[0,0],"exit":null,"ok":true,"phase":"stopped","seen":0}
+0 {"aggdrops":[0,0],"cause":"stop","dyndrops":[0,0],"errors":[0,0],"exit":null,"ok":true,"phase":"stopped","seen":0,"specdrops":[0,0],"specfails":0}
 0 {"epid":2,"id":2,"layout":[],"ok":true,"probe":"dtrace:::END","size":0}
 "#,
     ),
@@ -211,11 +211,11 @@ call 0 {"cmd":"status"}
 0 {"count":1,"first":1,"ok":true}
 0 {"ok":true}
 0 {"fn":"avg","name":"a","ok":true,"rows":[{"key":["sh"],"value":4}]}
-0 {"aggdrops":[0,1],"cause":null,"errors":[0,0],"exit":null,"ok":true,"phase":"active","seen":4}
+0 {"aggdrops":[0,1],"cause":null,"dyndrops":[0,0],"errors":[0,0],"exit":null,"ok":true,"phase":"active","seen":4,"specdrops":[0,0],"specfails":0}
 0 {"ok":true}
 0 {"fn":"avg","name":"a","ok":true,"rows":[]}
 0 {"fn":"avg","name":"a","ok":true,"rows":[{"key":["cron"],"value":5}]}
-0 {"aggdrops":[0,1],"cause":null,"errors":[0,0],"exit":null,"ok":true,"phase":"active","seen":5}
+0 {"aggdrops":[0,1],"cause":null,"dyndrops":[0,0],"errors":[0,0],"exit":null,"ok":true,"phase":"active","seen":5,"specdrops":[0,0],"specfails":0}
 "#,
     ),
     // two sessions, of which the second fills its buffer, exits and closes, and a third that takes its seat before the offers
@@ -248,7 +248,7 @@ call 0 {"cmd":"snap","cpu":0}
 1 {"count":2,"first":1,"ok":true}
 0 {"ok":true}
 1 {"ok":true}
-1 {"aggdrops":[0,0],"cause":"exit","errors":[0,0],"exit":9,"ok":true,"phase":"stopped","seen":1}
+1 {"aggdrops":[0,0],"cause":"exit","dyndrops":[0,0],"errors":[0,0],"exit":9,"ok":true,"phase":"stopped","seen":1,"specdrops":[0,0],"specfails":0}
 1 {"ok":true}
 1 {"count":1,"first":1,"ok":true}
 1 {"ok":true}

@@ -3,7 +3,8 @@ use dt_cred::{Firing, Mode, Probe, Process};
 use dt_expr::{
     BinaryOp, Expr, NumberVariable, Scene, Text, TextOp, TextVariable, UnaryOp, Value, eval,
 };
-use dt_names::{ProbeTuple, ShortText};
+use dt_locals::Locals;
+use dt_names::{Name, ProbeTuple, ShortText};
 use std::alloc::Global;
 use std::test::Fail;
 
@@ -104,6 +105,10 @@ uid = 4294967294
 timestamp = 9223372036854775807
 id = 17
 epid = 5
+self->x = 12
+self->y = 0
+self->x 3 * self->x - = 24
+self->x self->y / = fault
 ";
 
 /// In each line two texts that are equal, or are not; a variable stands by its name, and `()` is the empty text.
@@ -196,6 +201,8 @@ fn take_word(alloc: Global, stack: &mut Vec<Expr>, word: &str) -> Option<()> {
         Expr::Binary(op, Box::new(alloc, stack.pop()?).ok()?, right)
     } else if let Some(variable) = variable_of(word) {
         Expr::Variable(variable)
+    } else if let Some(name) = word.strip_prefix("self->") {
+        Expr::Local(Name::new(name.as_bytes())?)
     } else {
         Expr::Number(word.parse::<i64>().ok()?)
     };
@@ -203,18 +210,18 @@ fn take_word(alloc: Global, stack: &mut Vec<Expr>, word: &str) -> Option<()> {
 }
 
 /// The value of an expression, or nothing where it divides by zero.
-fn evaluated(expr: &Expr, scene: &Scene) -> Option<i64> {
-    eval(expr, scene).ok()
+fn evaluated(expr: &Expr, scene: &Scene, locals: &Locals) -> Option<i64> {
+    eval(expr, scene, locals).ok()
 }
 
 /// The value of an expression, or `fault` where it divides by zero; `None` where the words are no expression.
-fn value_of(alloc: Global, scene: &Scene, words: &str) -> Option<Option<i64>> {
+fn value_of(alloc: Global, scene: &Scene, locals: &Locals, words: &str) -> Option<Option<i64>> {
     let mut stack = Vec::new(alloc);
     for word in words.split(' ') {
         take_word(alloc, &mut stack, word)?;
     }
     match (stack.pop(), stack.is_empty()) {
-        (Some(expr), true) => Some(evaluated(&expr, scene)),
+        (Some(expr), true) => Some(evaluated(&expr, scene, locals)),
         _ => None,
     }
 }
@@ -231,9 +238,9 @@ fn text_of(word: &str) -> Option<Text> {
     }
 }
 
-fn compare_by(scene: &Scene, op: TextOp, left: &str, right: &str) -> Option<i64> {
+fn compare_by(scene: &Scene, locals: &Locals, op: TextOp, left: &str, right: &str) -> Option<i64> {
     let expr = Expr::Compare(op, text_of(left)?, text_of(right)?);
-    evaluated(&expr, scene)
+    evaluated(&expr, scene, locals)
 }
 
 fn are_alike(scene: &Scene, left: &str, right: &str) -> Option<bool> {
@@ -242,9 +249,9 @@ fn are_alike(scene: &Scene, left: &str, right: &str) -> Option<bool> {
 }
 
 /// Whether `==` and `!=` say that two texts are equal or unequal, and records show them alike or not.
-fn holds(scene: &Scene, left: &str, right: &str, equal: bool) -> bool {
-    compare_by(scene, TextOp::Equal, left, right) == Some(i64::from(equal))
-        && compare_by(scene, TextOp::NotEqual, left, right) == Some(i64::from(!equal))
+fn holds(scene: &Scene, locals: &Locals, left: &str, right: &str, equal: bool) -> bool {
+    compare_by(scene, locals, TextOp::Equal, left, right) == Some(i64::from(equal))
+        && compare_by(scene, locals, TextOp::NotEqual, left, right) == Some(i64::from(!equal))
         && are_alike(scene, left, right) == Some(equal)
 }
 
@@ -273,11 +280,21 @@ fn firing() -> Firing {
     }
 }
 
+/// The variables of two threads of a process: `x` is 12 in the one that fires, and `y` is 5 in the other.
+fn variables(alloc: Global) -> Result<Locals, Fail> {
+    let mut locals = Locals::new(alloc, 64)?;
+    let x = Name::new(b"x").ok_or("no name")?;
+    let y = Name::new(b"y").ok_or("no name")?;
+    locals.set(999_999, 4_294_967_295, &x, 12);
+    locals.set(999_999, 1, &y, 5);
+    Ok(locals)
+}
+
 /// The first line of numbers that does not hold.
-fn first_wrong_number(alloc: Global, scene: &Scene) -> Option<&'static str> {
+fn first_wrong_number(alloc: Global, scene: &Scene, locals: &Locals) -> Option<&'static str> {
     for line in NUMBERS.lines() {
         if let Some((words, number)) = line.rsplit_once(" = ") {
-            if value_of(alloc, scene, words) != Some(number.parse::<i64>().ok()) {
+            if value_of(alloc, scene, locals, words) != Some(number.parse::<i64>().ok()) {
                 return Some(line);
             }
         }
@@ -286,14 +303,14 @@ fn first_wrong_number(alloc: Global, scene: &Scene) -> Option<&'static str> {
 }
 
 /// The first line of texts that does not hold.
-fn first_wrong_text(scene: &Scene) -> Option<&'static str> {
+fn first_wrong_text(scene: &Scene, locals: &Locals) -> Option<&'static str> {
     for line in TEXTS.lines() {
         if let Some((left, right)) = line.split_once(" == ") {
-            if !holds(scene, left, right, true) {
+            if !holds(scene, locals, left, right, true) {
                 return Some(line);
             }
         } else if let Some((left, right)) = line.split_once(" != ") {
-            if !holds(scene, left, right, false) {
+            if !holds(scene, locals, left, right, false) {
                 return Some(line);
             }
         }
@@ -311,7 +328,8 @@ fn gives_the_values_of_the_tables(rt: HostRuntime) -> Result<(), Fail> {
         process: &process,
         firing: &firing,
     };
-    assert_eq!(rt; first_wrong_number(rt.alloc(), &scene), None);
-    assert_eq!(rt; first_wrong_text(&scene), None);
+    let locals = variables(rt.alloc())?;
+    assert_eq!(rt; first_wrong_number(rt.alloc(), &scene, &locals), None);
+    assert_eq!(rt; first_wrong_text(&scene, &locals), None);
     Ok(())
 }

@@ -128,7 +128,7 @@ fn long_session(alloc: Global, lines: usize) -> Result<(String, String), Fail> {
     for line in 0..lines {
         asked.push_str("call 0 {\"cmd\":\"status\"}\n")?;
         answered.push_str(if line < 1024 {
-            "0 {\"aggdrops\":[0,0],\"cause\":null,\"errors\":[0,0],\"exit\":null,\"ok\":true,\"phase\":\"inactive\",\"seen\":0}\n"
+            "0 {\"aggdrops\":[0,0],\"cause\":null,\"dyndrops\":[0,0],\"errors\":[0,0],\"exit\":null,\"ok\":true,\"phase\":\"inactive\",\"seen\":0,\"specdrops\":[0,0],\"specfails\":0}\n"
         } else {
             "0 {\"error\":15,\"name\":\"Quota\"}\n"
         })?;

@@ -138,41 +138,73 @@ fn take_snaps<R: Print + Eprint + AllocGlobal, F: Write>(
     Ok(())
 }
 
-/// Tells which errors and drops of aggregations are new on each processor, and gives how many processors there are.
+/// Tells which errors and drops are new on each processor, and which draws failed, and gives how many processors there are.
 fn tell_errors<R: Print + Eprint + AllocGlobal>(
     rt: &R,
     known: &mut Learnt,
     status: &Value,
 ) -> Result<u64, Trouble> {
-    let (Some(errors), Some(aggdrops)) = (
-        status.get("errors").and_then(|errors| errors.as_array()),
-        status.get("aggdrops").and_then(|drops| drops.as_array()),
-    ) else {
+    let cpus = tell_each(
+        rt,
+        &mut known.errors,
+        status.get("errors"),
+        "errors (a division by zero)",
+    )?;
+    tell_each(
+        rt,
+        &mut known.aggdrops,
+        status.get("aggdrops"),
+        "values dropped by aggregations",
+    )?;
+    tell_each(
+        rt,
+        &mut known.dyndrops,
+        status.get("dyndrops"),
+        "assignments to variables dropped",
+    )?;
+    tell_each(
+        rt,
+        &mut known.specdrops,
+        status.get("specdrops"),
+        "records dropped by speculations",
+    )?;
+    tell_fails(rt, &mut known.specfails, status.get("specfails"))?;
+    Ok(cpus)
+}
+
+/// Tells how much each processor's number has grown, and gives how many processors there are.
+fn tell_each<R: Print + Eprint + AllocGlobal>(
+    rt: &R,
+    told: &mut Vec<u64>,
+    numbers: Option<&Value>,
+    what: &str,
+) -> Result<u64, Trouble> {
+    let Some(numbers) = numbers.and_then(|numbers| numbers.as_array()) else {
         return Err(Trouble::Strange);
     };
     let mut cpu = 0_u64;
-    for number in errors {
-        tell_more(
-            rt,
-            &mut known.errors,
-            cpu,
-            number,
-            "errors (a division by zero)",
-        )?;
+    for number in numbers {
+        tell_more(rt, told, cpu, number, what)?;
         cpu = cpu.saturating_add(1);
     }
-    let mut cpu_of_drops = 0_u64;
-    for number in aggdrops {
-        tell_more(
-            rt,
-            &mut known.aggdrops,
-            cpu_of_drops,
-            number,
-            "values dropped by aggregations",
-        )?;
-        cpu_of_drops = cpu_of_drops.saturating_add(1);
-    }
     Ok(cpu)
+}
+
+/// Tells how many draws failed, since all identifiers were in use, beyond those that were told.
+fn tell_fails<R: Print + Eprint + AllocGlobal>(
+    rt: &R,
+    told: &mut u64,
+    number: Option<&Value>,
+) -> Result<(), Trouble> {
+    let Some(number) = number.and_then(|number| number.as_u64()) else {
+        return Err(Trouble::Strange);
+    };
+    if number > *told {
+        let line = format!(in rt.alloc(); "dtr: {} speculations not begun\n", number - *told)?;
+        tell(rt, line.as_bytes());
+    }
+    *told = number;
+    Ok(())
 }
 
 /// Tells how much a number of a processor has grown, where it has.

@@ -103,6 +103,12 @@ pub(crate) struct Learnt {
     pub(crate) errors: Vec<u64>,
     /// The drops of aggregations that were told, by processor.
     pub(crate) aggdrops: Vec<u64>,
+    /// The dynamic variable drops that were told, by processor.
+    pub(crate) dyndrops: Vec<u64>,
+    /// The speculative drops that were told, by processor.
+    pub(crate) specdrops: Vec<u64>,
+    /// The failed draws that were told.
+    pub(crate) specfails: u64,
     /// How many bytes of a buffer that keeps what it has were written as rows, by processor.
     pub(crate) written: Vec<u64>,
     /// How many firings were seen at the last look; none before the first.
@@ -132,6 +138,9 @@ impl Learnt {
             drops: Vec::new(alloc),
             errors: Vec::new(alloc),
             aggdrops: Vec::new(alloc),
+            dyndrops: Vec::new(alloc),
+            specdrops: Vec::new(alloc),
+            specfails: 0,
             written: Vec::new(alloc),
             seen: None,
             told_once,

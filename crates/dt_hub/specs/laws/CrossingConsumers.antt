@@ -5,6 +5,7 @@ use denote.Struct.Declared.{shape}
 use denote.Enum.Declared as enum
 use Rattle.std.proofs.Crossing as std
 use Rattle.dt_names.proofs.short_text.ShortText.TheSendSync as short_text
+use Rattle.dt_names.proofs.name.Name.TheSendSync as name
 use Rattle.dt_cred.proofs.account.Account.TheSendSync as account
 use Rattle.dt_aggfn.proofs.levels.Bounds.TheSendSync as bounds
 use Rattle.dt_expr.specs.contracts.expr.Expr as expr
@@ -46,8 +47,22 @@ aggregation_use_field : IsSend (aggregation_use.the_field).row
 aggregation_use_field = struct_send (shape aggregation_use.the_type) (short_text.the_send, (std.Vec-send argument.the_row argument_send, (call_field, tt)))
 
 statement_field : IsSend (statement.the_field).row
-statement_field = enum_send (enum.shape statement.the_type)
-    ((argument_field, tt), ((frames.the_field_send, tt), ((frames.the_field_send, tt), ((expr_field, tt), ((aggregation_use_field, tt), tt)))))
+statement_field = enum_send (enum.shape statement.the_type) (
+  (argument_field, tt),
+  (
+    (frames.the_field_send, tt),
+    (
+      (frames.the_field_send, tt),
+      (
+        (expr_field, tt),
+        (
+          (aggregation_use_field, tt),
+          ((name.the_send, (expr_field, tt)), ((name.the_send, tt), ((expr_field, tt), ((expr_field, tt), ((expr_field, tt), tt))))),
+        ),
+      ),
+    ),
+  ),
+)
 
 statement_send : IsSend statement.the_row
 statement_send = recorded_send (statement.the_field).row _ _ statement.the_type.to_one statement_field

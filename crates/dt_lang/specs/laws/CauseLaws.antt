@@ -8,97 +8,94 @@
 use Rattle.std.proofs.Common.{◌≡◌, ◌⊎◌, inl, inr, ℕ, ◌+◌, Bool, true, false, not, ◌&&◌, List, [], ◌∷◌, ◌++◌, Option}
 use Rattle.std.proofs.Common.{Some, None, Err, is_some, refl, sym, ap, ◌∙◌, subst, Decides, arith}
 use Rattle.std.specs.Option.{option_map}
-use Rattle.std.specs.Prelude.{option_and_then}
-use Rattle.dt_expr.specs.declared.scene.NumberVariable.TheVariants as variable
-use Rattle.dt_expr.specs.declared.scene.TextVariable.TheVariants as text_variable
+use Rattle.dt_lang.specs.declared.token.Sign.TheVariants as sign
 use Rattle.dt_lang.specs.declared.token.Token.{Token}
 use Rattle.dt_lang.specs.declared.token.Token.TheVariants as token
-use Rattle.dt_lang.specs.declared.word.Action.TheVariants as action
 use Rattle.dt_lang.specs.declared.word.Destructive.{Destructive}
 use Rattle.dt_lang.specs.declared.word.Function.TheVariants as function
+use Rattle.dt_lang.specs.declared.word.Keyword.TheVariants as keyword
 use Rattle.dt_lang.specs.declared.word.Word.{Word}
 use Rattle.dt_lang.specs.declared.word.Word.TheVariants as word
 use Rattle.dt_lang.specs.machine.ExpressionState as expression
 use Rattle.dt_lang.specs.Grammar.{before_statement, after_statement, Begins}
-use Rattle.dt_program.specs.Clause.{ArgForm, number, text, ClauseForm}
-use Rattle.dt_lang.specs.Stand.{Slot, predicate, given, key, value}
+use Rattle.dt_program.specs.Clause.{ClauseForm}
+use Rattle.dt_lang.specs.Stand.{Slot}
 use Rattle.dt_program.specs.declared.description.DescriptionFault.{DescriptionFault}
-use Rattle.dt_lang.specs.declared.fault.Flaw.TheVariants.{Syntax, Probe, Action, Variable, TooLong, Range}
+use Rattle.dt_lang.specs.declared.fault.Flaw.TheVariants.{Syntax, Probe, Action, Variable, TooLong, Range, Spec}
 use Rattle.dt_lang.specs.Refused.{Cause, because, destroys, rank, StatementBegins, IsDestructive, NameStands, a_statement, a_function}
 use Rattle.dt_lang.specs.Refused.{IsNoAction, VariableStands, a_number, a_text, NamesNoVariable, IsNoVariable}
 use Rattle.dt_lang.specs.Refused.{CauseHolds, Refused}
-use Rattle.dt_lang.specs.machine.ClauseState.{PlaceForm, body, assigned, within, bounded, at_lower, at_upper, at_step, inside}
-use Rattle.dt_lang.specs.machine.ClauseState.{ProgramState, program_at, shut, go_on, from_within, program_step_from, program_step, program_run}
+use Rattle.dt_lang.specs.machine.ClauseState.{PlaceForm, body, assigned, within, bounded, arrow_read, at_lower, at_upper, at_step, inside}
+use Rattle.dt_lang.specs.machine.ClauseState.{ProgramState, program_at, from_within, program_step_from, program_step, program_run}
 use Rattle.dt_lang.specs.machine.ClauseState.{program_start}
 use Rattle.dt_lang.specs.machine.Cause.{too_long_at, out_of_range_at, is_word, names_no_variable, destructive_of}
-use Rattle.dt_lang.specs.machine.Cause.{description_fault, statement_at, name_may_stand, operand_at, destroys_at, cause_of}
+use Rattle.dt_lang.specs.machine.Cause.{description_fault, statement_at, name_may_stand, operand_at, destroys_at, is_excluded_at, cause_of}
 use Rattle.dt_lang.specs.machine.Cause.{where_true, too_long_cause, destructive_cause, probe_cause, action_cause, variable_cause}
-use Rattle.dt_lang.specs.machine.Cause.{range_cause, syntax_cause}
+use Rattle.dt_lang.specs.machine.Cause.{range_cause, spec_cause, syntax_cause}
 use Rattle.dt_lang.specs.laws.ExpressionLaws.{foreign}
 use Rattle.dt_lang.specs.laws.ClauseSound.{none_some, same_some}
-use Rattle.dt_lang.specs.laws.ClauseLaws.{Steps, goes_on, begins_on}
+use Rattle.dt_lang.specs.laws.ClauseComplete.{run_on}
+use Rattle.dt_lang.specs.laws.ClauseLaws.{Steps, viable, leads, leads_by, two_steps, goes_on, begins_on}
+use Rattle.dt_lang.specs.laws.Ends.{goes_within, count_stays}
+use Rattle.dt_lang.specs.laws.KindLaws.{excluded_is, excluded_true}
 use Rattle.dt_lang.specs.laws.CauseOrder.{Tells, Tests, done, test, not_destructive, refused_by, first_by, unrefused_by}
 use Rattle.dt_lang.specs.laws.TakesLaws.{both_left, both_right, wants_where_number, wants_where_text, operand_goes_on}
 use Rattle.dt_lang.specs.laws.TooLongLaws.{too_long_is, too_long_true}
 use Rattle.dt_lang.specs.laws.RangeLaws.{out_of_range_is, out_of_range_true}
 
--- no word ends what is read for a slot
-shut_word : (cs : List ClauseForm) (c : ClauseForm) (slot : Slot) (w : Word) (a : ArgForm)
-    → shut cs c slot (token.Word w) a ≡ None
-shut_word cs c predicate w (number f) = refl
-shut_word cs c predicate w (text a) = refl
-shut_word cs c (given action) w a = refl
-shut_word cs c (key name keys) w a = refl
-shut_word cs c (value name keys fn) w (number f) = refl
-shut_word cs c (value name keys fn) w (text a) = refl
-
-done_word : (cs : List ClauseForm) (c : ClauseForm) (slot : Slot) (w : Word) (d : Option ArgForm)
-    → option_and_then (shut cs c slot (token.Word w)) d ≡ None
-done_word cs c slot w (Some a) = shut_word cs c slot w a
-done_word cs c slot w None = refl
-
--- a word that goes on with what is read for a slot goes on with the expression
-within_word : (cs : List ClauseForm) (c : ClauseForm) (slot : Slot) (n : ℕ) (e : expression.State) (w : Word)
-    (next : ProgramState) (o : Option expression.State) → expression.step e (token.Word w) ≡ o
-    → go_on cs c slot n e (token.Word w) o ≡ Some next
-    → (m : expression.State) × (expression.step e (token.Word w) ≡ Some m)
-within_word cs c slot n e w next (Some m) h k = (m, h)
-within_word cs c slot n e w next None h k = absurd (none_some (sym (done_word cs c slot w (expression.done e)) ∙ k))
-
--- a foreign word doesn't go on there
-within_foreign : (cs : List ClauseForm) (c : ClauseForm) (slot : Slot) (n : ℕ) (e : expression.State) (w : Word)
-    (next : ProgramState) → expression.step e (token.Word w) ≡ None
-    → from_within cs c slot n e (token.Word w) ≡ Some next → ⊥
-within_foreign cs c slot n e w next h k =
-    let r = within_word cs c slot n e w next (expression.step e (token.Word w)) refl k in
-    none_some (sym h ∙ r.1)
-
 statement_place : (cs : List ClauseForm) (c : ClauseForm) (p : PlaceForm) (next : ProgramState)
-    → program_step_from cs c p (token.Word (word.Action action.Trace)) ≡ Some next → statement_at p ≡ true
+    → program_step_from cs c p (token.Aggregation []) ≡ Some next → statement_at p ≡ true
 statement_place cs c (body before_statement) next h = refl
 statement_place cs c (within slot n e) next h =
-    absurd (within_foreign cs c slot n e (word.Action action.Trace) next (foreign e _ refl) h)
+    let g = goes_within cs c slot n e (token.Aggregation []) next refl refl h in
+    absurd (none_some (sym (foreign e _ refl) ∙ g.steps))
 statement_place cs c (inside (bounded name keys f at_lower z)) next h = absurd (none_some h)
 statement_place cs c (inside (bounded name keys f (at_upper lower) z)) next h = absurd (none_some h)
 statement_place cs c (inside (bounded name keys f (at_step lower upper) z)) next h = absurd (none_some h)
 statement_place cs c _ next h = absurd (none_some h)
 
-function_place : (cs : List ClauseForm) (c : ClauseForm) (p : PlaceForm) (next : ProgramState)
-    → program_step_from cs c p (token.Word (word.Function function.Count)) ≡ Some next → name_may_stand p ≡ true
-function_place cs c (body before_statement) next h = refl
-function_place cs c (inside (assigned name keys)) next h = refl
-function_place cs c (within slot n e) next h =
-    absurd (within_foreign cs c slot n e (word.Function function.Count) next (foreign e _ refl) h)
-function_place cs c (inside (bounded name keys f at_lower z)) next h = absurd (none_some h)
-function_place cs c (inside (bounded name keys f (at_upper lower) z)) next h = absurd (none_some h)
-function_place cs c (inside (bounded name keys f (at_step lower upper) z)) next h = absurd (none_some h)
-function_place cs c _ next h = absurd (none_some h)
+-- an aggregating function's name, which a `(` follows
+abbrev a_function_name : Token
+a_function_name = token.Word (word.Function function.Count)
+
+abbrev an_opening : Token
+an_opening = token.Sign sign.OpenParen
+
+within_function : (cs : List ClauseForm) (c : ClauseForm) (slot : Slot) (n : ℕ) (e : expression.State)
+    (middle next : ProgramState) → from_within cs c slot n e a_function_name ≡ Some middle
+    → program_step middle an_opening ≡ Some next → ⊥
+unfolding program_step
+within_function cs c slot n e middle next h k =
+    let g = goes_within cs c slot n e a_function_name middle refl refl h in
+    let on : from_within cs c slot (n + 1) g.at an_opening ≡ Some next =
+    subst (λ (x : ProgramState). program_step x an_opening ≡ Some next) (sym g.is) k in
+    let more = goes_within cs c slot (n + 1) g.at an_opening next refl refl on in
+    none_some (sym (count_stays e g.at g.steps) ∙ more.steps)
+
+arrow_function : (cs : List ClauseForm) (c : ClauseForm) (middle next : ProgramState)
+    → program_step_from cs c (inside arrow_read) a_function_name ≡ Some middle
+    → program_step middle an_opening ≡ Some next → ⊥
+unfolding program_step
+arrow_function cs c middle next h k =
+    none_some (subst (λ (x : ProgramState). program_step x an_opening ≡ Some next) (sym (same_some h)) k)
+
+function_place : (cs : List ClauseForm) (c : ClauseForm) (p : PlaceForm) (middle next : ProgramState)
+    → program_step_from cs c p a_function_name ≡ Some middle → program_step middle an_opening ≡ Some next
+    → name_may_stand p ≡ true
+function_place cs c (body before_statement) middle next h k = refl
+function_place cs c (inside (assigned name keys)) middle next h k = refl
+function_place cs c (inside arrow_read) middle next h k = absurd (arrow_function cs c middle next h k)
+function_place cs c (within slot n e) middle next h k = absurd (within_function cs c slot n e middle next h k)
+function_place cs c (inside (bounded name keys f at_lower z)) middle next h k = absurd (none_some h)
+function_place cs c (inside (bounded name keys f (at_upper lower) z)) middle next h k = absurd (none_some h)
+function_place cs c (inside (bounded name keys f (at_step lower upper) z)) middle next h k = absurd (none_some h)
+function_place cs c _ middle next h k = absurd (none_some h)
 
 number_place : (cs : List ClauseForm) (c : ClauseForm) (p : PlaceForm) (next : ProgramState)
-    → program_step_from cs c p (token.Word (word.Number variable.Pid)) ≡ Some next → operand_at p ≡ true
+    → program_step_from cs c p (token.Sign sign.Bang) ≡ Some next → operand_at p ≡ true
 number_place cs c (within slot n e) next h =
-    let r = within_word cs c slot n e (word.Number variable.Pid) next (expression.step e _) refl h in
-    wants_where_number e r.0 r.1
+    let g = goes_within cs c slot n e (token.Sign sign.Bang) next refl refl h in
+    wants_where_number e g.at g.steps
 number_place cs c (body before_statement) next h = absurd (none_some h)
 number_place cs c (body after_statement) next h = absurd (none_some h)
 number_place cs c (inside (bounded name keys f at_lower z)) next h = absurd (none_some h)
@@ -107,10 +104,10 @@ number_place cs c (inside (bounded name keys f (at_step lower upper) z)) next h 
 number_place cs c _ next h = absurd (none_some h)
 
 text_place : (cs : List ClauseForm) (c : ClauseForm) (p : PlaceForm) (next : ProgramState)
-    → program_step_from cs c p (token.Word (word.Text text_variable.Execname)) ≡ Some next → operand_at p ≡ true
+    → program_step_from cs c p (token.String []) ≡ Some next → operand_at p ≡ true
 text_place cs c (within slot n e) next h =
-    let r = within_word cs c slot n e (word.Text text_variable.Execname) next (expression.step e _) refl h in
-    wants_where_text e r.0 r.1
+    let g = goes_within cs c slot n e (token.String []) next refl refl h in
+    wants_where_text e g.at g.steps
 text_place cs c (body before_statement) next h = absurd (none_some h)
 text_place cs c (body after_statement) next h = absurd (none_some h)
 text_place cs c (inside (bounded name keys f at_lower z)) next h = absurd (none_some h)
@@ -120,17 +117,21 @@ text_place cs c _ next h = absurd (none_some h)
 
 -- what steps from places
 statement_steps : (cs : List ClauseForm) (c : ClauseForm) (p : PlaceForm) → statement_at p ≡ true
-    → Steps (program_at cs c p) (token.Word (word.Action action.Trace))
+    → Steps (program_at cs c p) (token.Aggregation [])
 unfolding program_step
 statement_steps cs c (body before_statement) e = record { next = _; steps = refl }
 statement_steps cs c _ e = cc
 
+-- The two tokens lead on from the state.
+record StepsTwice (s : ProgramState) : Type 0 where
+  end : ProgramState
+  runs : program_run s (a_function_name ∷ an_opening ∷ []) ≡ Some end
+
 name_steps : (cs : List ClauseForm) (c : ClauseForm) (p : PlaceForm) → name_may_stand p ≡ true
-    → Steps (program_at cs c p) (token.Word (word.Action action.Trace))
-    ⊎ Steps (program_at cs c p) (token.Word (word.Function function.Count))
-unfolding program_step
+    → Steps (program_at cs c p) (token.Aggregation []) ⊎ StepsTwice (program_at cs c p)
+unfolding program_run program_step
 name_steps cs c (body before_statement) e = inl (record { next = _; steps = refl })
-name_steps cs c (inside (assigned name keys)) e = inr (record { next = _; steps = refl })
+name_steps cs c (inside (assigned name keys)) e = inr (record { end = _; runs = refl })
 name_steps cs c _ e = cc
 
 within_steps : (cs : List ClauseForm) (c : ClauseForm) (slot : Slot) (n : ℕ) (e next : expression.State) (t : Token)
@@ -139,8 +140,7 @@ unfolding program_step
 within_steps cs c slot n e next t h = record { next = program_at cs c (within slot (n + 1) next); steps = rw h refl }
 
 operand_steps : (cs : List ClauseForm) (c : ClauseForm) (p : PlaceForm) → operand_at p ≡ true
-    → Steps (program_at cs c p) (token.Word (word.Number variable.Pid))
-    ⊎ Steps (program_at cs c p) (token.Word (word.Text text_variable.Execname))
+    → Steps (program_at cs c p) (token.Sign sign.Bang) ⊎ Steps (program_at cs c p) (token.String [])
 operand_steps cs c (within slot n e) h = elim (operand_goes_on e h) [
   | inl k ↦ inl (within_steps cs c slot n e k.0 _ k.1)
   | inr k ↦ inr (within_steps cs c slot n e k.0 _ k.1)
@@ -165,12 +165,18 @@ module _ (ts : List Token) (t : Token) (s : ProgramState) (h : program_run progr
       from_statement (body before_statement) e = refl
       from_statement _ e = cc
   name_where (a_function b) =
-      let k = goes_on ts s _ h b in function_place s.clauses s.clause s.place k.next k.steps
+      let l = leads (ts ++ (a_function_name ∷ an_opening ∷ [])) b in
+      let k = leads_by ts (a_function_name ∷ an_opening ∷ []) l.at l.runs in
+      let on : program_run s (a_function_name ∷ an_opening ∷ []) ≡ Some l.at =
+      subst (λ (x : ProgramState). program_run x (a_function_name ∷ an_opening ∷ []) ≡ Some l.at) (same_some (sym k.first ∙ h))
+      k.second in
+      let two = two_steps s l.at a_function_name an_opening on in
+      function_place s.clauses s.clause s.place two.middle l.at two.first two.second
 
   name_there : name_may_stand s.place ≡ true → NameStands ts
   name_there e = elim (name_steps s.clauses s.clause s.place e) [
     | inl k ↦ a_statement (begins_on ts s _ h k)
-    | inr k ↦ a_function (begins_on ts s _ h k)
+    | inr k ↦ a_function (viable _ k.end (run_on program_start s k.end ts _ h k.runs))
   ]
 
   operand_where : VariableStands ts → operand_at s.place ≡ true
@@ -207,12 +213,16 @@ is_word_true t w e = ap is_word e
 no_variable_is : (t : Token) → names_no_variable t ≡ true → NamesNoVariable t
 no_variable_is (token.Word (word.Number v)) e = cc
 no_variable_is (token.Word (word.Text v)) e = cc
+no_variable_is (token.Word (word.Keyword keyword.ThreadLocal)) e = cc
+no_variable_is (token.Word (word.Keyword keyword.Speculation)) e = tt
 no_variable_is (token.Word w) e = tt
 no_variable_is _ e = cc
 
 no_variable_true : (t : Token) → NamesNoVariable t → names_no_variable t ≡ true
 no_variable_true (token.Word (word.Number v)) h = absurd h
 no_variable_true (token.Word (word.Text v)) h = absurd h
+no_variable_true (token.Word (word.Keyword keyword.ThreadLocal)) h = absurd h
+no_variable_true (token.Word (word.Keyword keyword.Speculation)) h = refl
 no_variable_true (token.Word w) h = refl
 no_variable_true _ h = absurd h
 
@@ -292,14 +302,23 @@ module _ (ts : List Token) (t : Token) (s : ProgramState) (h : program_run progr
       let c = (syntax_decides ts t s h).1 k.unfit in
       rw (a, b, c) refl
 
-  variable_is : names_no_variable t && operand_at s.place ≡ true → IsNoVariable ts t
-  variable_is e = record {
-    unknown = no_variable_is t (both_left _ _ e);
-    stands = operand_there ts t s h (both_right (names_no_variable t) _ e);
-  }
+  variable_is : names_no_variable t && (operand_at s.place && not (is_some (program_step s t))) ≡ true
+      → IsNoVariable ts t
+  variable_is e =
+      let k = both_right (names_no_variable t) _ e in
+      record {
+        unknown = no_variable_is t (both_left _ _ e);
+        stands = operand_there ts t s h (both_left _ _ k);
+        unfit = (syntax_decides ts t s h).0 (both_right (operand_at s.place) _ k);
+      }
 
-  variable_true : IsNoVariable ts t → names_no_variable t && operand_at s.place ≡ true
-  variable_true k = rw (no_variable_true t k.unknown, operand_where ts t s h k.stands) refl
+  variable_true : IsNoVariable ts t
+      → names_no_variable t && (operand_at s.place && not (is_some (program_step s t))) ≡ true
+  variable_true k =
+      let a = no_variable_true t k.unknown in
+      let b = operand_where ts t s h k.stands in
+      let c = (syntax_decides ts t s h).1 k.unfit in
+      rw (a, b, c) refl
 
   destructive_there : (what : Destructive) → destroys_at s.place t ≡ Some what → IsDestructive ts t what
   destructive_there what e =
@@ -345,10 +364,12 @@ module _ (ts : List Token) (t : Token) (s : ProgramState) (h : program_run progr
       only (because Action) r k = ap (λ b. where_true b (because Action)) (action_true k)
       only _ r k = absurd (omega arith)
 
-  tells_variable : Tells ts t 4 (variable_cause s.place t)
-  tells_variable = told_where ts t (because Variable) refl (names_no_variable t && operand_at s.place) variable_is only
+  tells_variable : Tells ts t 4 (variable_cause s.place t (program_step s t))
+  tells_variable = told_where ts t (because Variable) refl
+      (names_no_variable t && (operand_at s.place && not (is_some (program_step s t)))) variable_is only
     where
-      only : (cause : Cause) → rank cause ≡ 4 → CauseHolds ts t cause → variable_cause s.place t ≡ Some cause
+      only : (cause : Cause) → rank cause ≡ 4 → CauseHolds ts t cause
+          → variable_cause s.place t (program_step s t) ≡ Some cause
       only (because Variable) r k = ap (λ b. where_true b (because Variable)) (variable_true k)
       only _ r k = absurd (omega arith)
 
@@ -362,18 +383,26 @@ module _ (ts : List Token) (t : Token) (s : ProgramState) (h : program_run progr
           ap (option_map (λ fault. because (Range fault))) (out_of_range_true ts t s h fault k)
       only _ r k = absurd (omega arith)
 
-  tells_syntax : Tells ts t 6 (syntax_cause (program_step s t))
+  tells_spec : Tells ts t 6 (spec_cause s.clause s.place t)
+  tells_spec = told_where ts t (because Spec) refl (is_excluded_at s.clause s.place t) (excluded_is ts t s h) only
+    where
+      only : (cause : Cause) → rank cause ≡ 6 → CauseHolds ts t cause → spec_cause s.clause s.place t ≡ Some cause
+      only (because Spec) r k = ap (λ b. where_true b (because Spec)) (excluded_true ts t s h k)
+      only _ r k = absurd (omega arith)
+
+  tells_syntax : Tells ts t 7 (syntax_cause (program_step s t))
   tells_syntax = told_where ts t (because Syntax) refl (not (is_some (program_step s t))) (syntax_decides ts t s h).0 only
     where
-      only : (cause : Cause) → rank cause ≡ 6 → CauseHolds ts t cause → syntax_cause (program_step s t) ≡ Some cause
+      only : (cause : Cause) → rank cause ≡ 7 → CauseHolds ts t cause → syntax_cause (program_step s t) ≡ Some cause
       only (because Syntax) r k = ap (λ b. where_true b (because Syntax)) ((syntax_decides ts t s h).1 k)
       only _ r k = absurd (omega arith)
 
   tests : Tests ts t 0 (too_long_cause s.clauses s.clause s.place t ∷ destructive_cause s.place t ∷ probe_cause t
-      ∷ action_cause s.place t (program_step s t) ∷ variable_cause s.place t ∷ range_cause (out_of_range_at s.place t)
-      ∷ syntax_cause (program_step s t) ∷ [])
+      ∷ action_cause s.place t (program_step s t) ∷ variable_cause s.place t (program_step s t)
+      ∷ range_cause (out_of_range_at s.place t) ∷ spec_cause s.clause s.place t ∷ syntax_cause (program_step s t) ∷ [])
   tests = test 0 _ _ tells_too_long (test 1 _ _ tells_destructive (test 2 _ _ tells_probe (test 3 _ _ tells_action
-      (test 4 _ _ tells_variable (test 5 _ _ tells_range (test 6 _ _ tells_syntax done))))))
+      (test 4 _ _ tells_variable (test 5 _ _ tells_range (test 6 _ _ tells_spec
+      (test 7 _ _ tells_syntax done)))))))
 
   pub refused : (cause : Cause) → cause_of s t ≡ Some cause → Refused ts t cause
   unfolding cause_of

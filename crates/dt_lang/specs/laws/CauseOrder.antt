@@ -4,7 +4,7 @@ use Rattle.std.proofs.Common.{◌≡◌, ◌≢◌, ◌⊎◌, inl, inr, ℕ, ze
 use Rattle.std.proofs.Common.{refl, sym, ap, subst, arith}
 use Rattle.std.proofs.lemmas.Bool.{cases_lt}
 use Rattle.dt_lang.specs.declared.fault.Flaw.{Flaw}
-use Rattle.dt_lang.specs.declared.fault.Flaw.TheVariants.{Syntax, Probe, Action, Variable, TooLong, Range}
+use Rattle.dt_lang.specs.declared.fault.Flaw.TheVariants.{Syntax, Probe, Action, Variable, TooLong, Range, Spec}
 use Rattle.dt_lang.specs.declared.token.Token.{Token}
 use Rattle.dt_lang.specs.Refused.{Cause, because, destroys, rank, CauseHolds, Refused}
 use Rattle.dt_lang.specs.machine.Cause.{first_of}
@@ -12,7 +12,7 @@ use Rattle.dt_lang.specs.laws.ClauseSound.{none_some, same_some}
 
 -- how many ranks of causes there are
 abbrev pub RANKS : ℕ
-RANKS = 7
+RANKS = 8
 
 rank_below : (cause : Cause) → rank cause < RANKS
 rank_below (because (TooLong limit)) = omega arith
@@ -21,6 +21,7 @@ rank_below (because (Probe fault)) = omega arith
 rank_below (because Action) = omega arith
 rank_below (because Variable) = omega arith
 rank_below (because (Range fault)) = omega arith
+rank_below (because Spec) = omega arith
 rank_below (because Syntax) = omega arith
 
 -- What the test of a rank tells: the cause of that rank that holds, if one does.
@@ -111,4 +112,5 @@ not_destructive (Probe fault) r = omega arith
 not_destructive Action r = omega arith
 not_destructive Variable r = omega arith
 not_destructive (Range fault) r = omega arith
+not_destructive Spec r = omega arith
 not_destructive Syntax r = omega arith

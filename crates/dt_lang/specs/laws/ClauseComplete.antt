@@ -1,5 +1,6 @@
 -- What is read as a program leads through the states of its reading to its end.
 use Rattle.std.proofs.Common.{◌≡◌, ◌≢◌, ℕ, ◌+◌, leb, true, false, ◌&&◌, List, [], ◌∷◌, ◌++◌, length, Option, Some, None}
+use Rattle.std.proofs.Common.{◌⊎◌, inl, inr}
 use Rattle.std.proofs.Common.{refl, sym, ap, ◌∙◌, append_assoc, ℤ, pos, le-leb, add-zero, suc, arith}
 use Rattle.std.specs.Prelude.{option_and_then}
 use Rattle.dt_expr.specs.Form.{Form, Num}
@@ -12,17 +13,20 @@ use Rattle.dt_lang.specs.declared.word.Action.{Action}
 use Rattle.dt_lang.specs.declared.word.Action.TheVariants as action
 use Rattle.dt_lang.specs.declared.word.Function.{Function}
 use Rattle.dt_lang.specs.declared.word.Function.TheVariants as function
+use Rattle.dt_lang.specs.declared.word.Keyword.TheVariants as keyword
+use Rattle.dt_lang.specs.declared.word.Word.TheVariants as word
+use Rattle.dt_lang.specs.Expression.{ReadsExpr, ReadsLocal, a_local}
 use Rattle.dt_lang.specs.machine.ExpressionState as expression
 use Rattle.dt_lang.specs.machine.ExpressionState.{IsRead, ends_argument}
 use Rattle.dt_lang.specs.Grammar.{ReadsHead, a_description, another, ReadsOpening, always, ReadsKeys, a_key}
 use Rattle.dt_lang.specs.Grammar.{ReadsTarget, bare, ReadsConstant, plain, negative, ReadsBounds, by_one, stepped}
 use Rattle.dt_lang.specs.Grammar.{call_of, ReadsCall, counting, of_one, in_levels, IsFrameCount, ReadsStatement}
-use Rattle.dt_lang.specs.Grammar.{statement_of, TakesNumber, of_argument, of_stack, of_ustack, aggregating, Spot, before_statement, after_statement, ReadsBody}
+use Rattle.dt_lang.specs.Grammar.{statement_of, TakesNumber, of_argument, of_stack, of_ustack, aggregating, assigning, drawing, Spot, before_statement, after_statement, ReadsBody}
 use Rattle.dt_lang.specs.Grammar.{nothing, stated, separated, ReadsClause, a_clause, ReadsClauses, ReadsProgram}
 use Rattle.dt_lang.specs.Grammar as grammar
-use Rattle.dt_program.specs.Clause.{ArgForm, number, CallForm, lquantize, StatementForm, aggregate, ClauseForm}
+use Rattle.dt_program.specs.Clause.{ArgForm, number, CallForm, lquantize, StatementForm, aggregate, assign, draw, ClauseForm}
 use Rattle.dt_lang.specs.Stand.{HeadStands, BodyStands, KeysStand, TargetStands, Slot, predicate, given, key}
-use Rattle.dt_lang.specs.Stand.{value, divides_in, SlotOpens}
+use Rattle.dt_lang.specs.Stand.{value, assignment, divides_in, SlotOpens}
 use Rattle.dt_lang.specs.Stand as stand
 use Rattle.dt_lang.specs.machine.ClauseState.{BoundForm, at_lower, at_upper, at_step, outside, described, body, keyed, assigned, inside}
 use Rattle.dt_lang.specs.machine.ClauseState.{within, bounding, bounded, ProgramState, program_at, headed, ended, entered}
@@ -234,16 +238,75 @@ given_argument cs c action.Stack x s m = cc
 given_argument cs c action.Ustack x s m = cc
 given_argument cs c _ x s m = refl
 
+-- a thread-local variable and `=`
+local_over : (cs : List ClauseForm) (c : ClauseForm) (name : List ℕ) (ts us : List Token) → ReadsLocal ts name
+    → program_run (program_at cs c (body before_statement)) (ts ++ (token.Sign sign.Equal ∷ us))
+    ≡ program_run (entered cs c (assignment name)) us
+unfolding program_run program_step
+local_over cs c _ _ us (a_local w name e) = rw e refl
+
+-- `speculation` and `(` `)`, where a variable's value begins
+draw_leads : (cs : List ClauseForm) (c : ClauseForm) (name : List ℕ)
+    → program_run (entered cs c (assignment name))
+    (token.Word (word.Keyword keyword.Speculation) ∷ token.Sign sign.OpenParen ∷ token.Sign sign.CloseParen ∷ [])
+    ≡ Some (ended cs c (draw name))
+unfolding program_run program_step expression.step expression.done
+draw_leads cs c name = refl
+
+-- what may stand after a statement
+abbrev pub IsAfterStatement : Token → Type 0
+IsAfterStatement t = (t ≡ token.Sign sign.Semicolon) ⊎ (t ≡ token.Sign sign.CloseBrace)
+
+-- What may stand after a statement is read here as it is there.
+abbrev pub EndsAs : (at whole : ProgramState) → Type 0
+EndsAs at whole = (t : Token) → IsAfterStatement t → program_step at t ≡ program_step whole t
+
+-- A statement leads to its end, or to where the token after it ends it.
+record StatementLeads (cs : List ClauseForm) (c : ClauseForm) (ts : List Token) (s : StatementForm) : Type 0 where
+  at : ProgramState
+  runs : program_run (program_at cs c (body before_statement)) ts ≡ Some at
+  ends : EndsAs at (ended cs c s)
+
+ended_leads : (cs : List ClauseForm) (c : ClauseForm) (ts : List Token) (s : StatementForm)
+    → program_run (program_at cs c (body before_statement)) ts ≡ Some (ended cs c s) → StatementLeads cs c ts s
+ended_leads cs c ts s runs = record { at = ended cs c s; runs = runs; ends = λ t after. refl }
+
+-- an expression's value is whole where its statement is
+value_ends : (cs : List ClauseForm) (c : ClauseForm) (name : List ℕ) (n : ℕ) (us : List Token) (f : Form)
+    (r : IsRead true us (number f))
+    → EndsAs (program_at cs c (within (assignment name) n r.at)) (ended cs c (assign name f))
+unfolding program_step
+value_ends cs c name n us f r t (inl e) =
+    rw e (step_shut cs c (assignment name) n r.at (number f) _ (laws.ends true us r.at (number f) _ r.runs r.is_done refl)
+    r.is_done)
+value_ends cs c name n us f r t (inr e) =
+    rw e (step_shut cs c (assignment name) n r.at (number f) _ (laws.ends true us r.at (number f) _ r.runs r.is_done refl)
+    r.is_done)
+
+assignment_leads : (cs : List ClauseForm) (c : ClauseForm) (ts us : List Token) (name : List ℕ) (f : Form)
+    → ReadsLocal ts name → ReadsExpr true 0 us f
+    → StatementLeads cs c (ts ++ (token.Sign sign.Equal ∷ us)) (assign name f)
+assignment_leads cs c ts us name f h k =
+    let r = complete true us f k in
+    record {
+      at = program_at cs c (within (assignment name) (0 + length us) r.at);
+      runs = local_over cs c name ts us h ∙ run_within cs c (assignment name) us 0 (expression.start true) r.at r.runs;
+      ends = value_ends cs c name (0 + length us) us f r;
+    }
+
 statement_leads : (cs : List ClauseForm) (c : ClauseForm) (ts : List Token) (s : StatementForm) → ReadsStatement ts s
-    → program_run (program_at cs c (body before_statement)) ts ≡ Some (ended cs c s)
+    → StatementLeads cs c ts s
 unfolding program_run program_step
 statement_leads cs c _ _ (of_argument a ts x s m h) =
-    rw (given_argument cs c a x s m)
-    (slot_over cs c (given a) ts [] x (token.Sign sign.CloseParen) _ (complete_argument ts x h) refl (rw m refl))
-statement_leads cs c _ _ (of_stack n h) = rw (frames_true n h) refl
-statement_leads cs c _ _ (of_ustack n h) = rw (frames_true n h) refl
+    ended_leads cs c _ s (rw (given_argument cs c a x s m)
+    (slot_over cs c (given a) ts [] x (token.Sign sign.CloseParen) _ (complete_argument ts x h) refl (rw m refl)))
+statement_leads cs c _ _ (of_stack n h) = ended_leads cs c _ _ (rw (frames_true n h) refl)
+statement_leads cs c _ _ (of_ustack n h) = ended_leads cs c _ _ (rw (frames_true n h) refl)
 statement_leads cs c _ _ (aggregating ts us name keys call h k) =
-    target_over cs c name keys ts us h ∙ call_leads cs c name keys us call k
+    ended_leads cs c _ _ (target_over cs c name keys ts us h ∙ call_leads cs c name keys us call k)
+statement_leads cs c _ _ (assigning ts us name f h k) = assignment_leads cs c ts us name f h k
+statement_leads cs c _ _ (drawing ts name h) =
+    ended_leads cs c _ _ (local_over cs c name ts _ h ∙ draw_leads cs c name)
 
 -- bodies
 separated_step : (cs : List ClauseForm) (c : ClauseForm) (spot : Spot)
@@ -263,15 +326,40 @@ closed_step cs c after_statement = refl
 abbrev clause_of : List DescForm → Option Form → List StatementForm → ClauseForm
 clause_of ds p ss = record { descriptions = ds; predicate = p; statements = ss }
 
+-- a state at such a spot of a body, as far as what may stand after a statement is concerned
+abbrev IsAtSpot : List ClauseForm → ClauseForm → Spot → ProgramState → Type 0
+IsAtSpot cs c before_statement at = at ≡ program_at cs c (body before_statement)
+IsAtSpot cs c after_statement at = EndsAs at (program_at cs c (body after_statement))
+
+-- A body up to a spot leads there.
+record BodyLeads (cs : List ClauseForm) (ds : List DescForm) (p : Option Form) (spot : Spot) (ts : List Token)
+    (ss : List StatementForm) : Type 0 where
+  at : ProgramState
+  runs : program_run (program_at cs (clause_of ds p []) (body before_statement)) ts ≡ Some at
+  there : IsAtSpot cs (clause_of ds p ss) spot at
+
+-- what may stand after a statement is read at a spot as it is in the state there
+spot_step : (cs : List ClauseForm) (c : ClauseForm) (spot : Spot) (at : ProgramState) (t : Token) → IsAtSpot cs c spot at
+    → IsAfterStatement t → program_step at t ≡ program_step (program_at cs c (body spot)) t
+spot_step cs c before_statement at t h after = ap (λ (x : ProgramState). program_step x t) h
+spot_step cs c after_statement at t h after = h t after
+
 body_leads : (cs : List ClauseForm) (ds : List DescForm) (p : Option Form) (spot : Spot) (ts : List Token)
-    (ss : List StatementForm) → ReadsBody spot ts ss
-    → program_run (program_at cs (clause_of ds p []) (body before_statement)) ts ≡ Some (program_at cs (clause_of ds p ss) (body spot))
+    (ss : List StatementForm) → ReadsBody spot ts ss → BodyLeads cs ds p spot ts ss
 unfolding program_run
-body_leads cs ds p _ _ _ nothing = refl
+body_leads cs ds p _ _ _ nothing = record { at = _; runs = refl; there = refl }
 body_leads cs ds p _ _ _ (stated ts us ss s h k) =
-    run_on _ _ _ ts us (body_leads cs ds p before_statement ts ss h) (statement_leads cs (clause_of ds p ss) us s k)
+    let b = body_leads cs ds p before_statement ts ss h in
+    let l = statement_leads cs (clause_of ds p ss) us s k in
+    record { at = l.at; runs = run_on _ _ _ ts us (b.runs ∙ ap Some b.there) l.runs; there = l.ends }
 body_leads cs ds p _ _ _ (separated spot ts ss h) =
-    run_step _ _ _ ts _ (body_leads cs ds p spot ts ss h) (separated_step cs (clause_of ds p ss) spot)
+    let b = body_leads cs ds p spot ts ss h in
+    record {
+      at = program_at cs (clause_of ds p ss) (body before_statement);
+      runs = run_step _ _ _ ts _ b.runs
+          (spot_step cs (clause_of ds p ss) spot b.at _ b.there (inl refl) ∙ separated_step cs (clause_of ds p ss) spot);
+      there = refl;
+    }
 
 -- heads
 head_leads : (cs : List ClauseForm) (c : ClauseForm) (ts : List Token) (ds : List DescForm) → ReadsHead ts ds
@@ -292,8 +380,10 @@ opening_leads cs c _ _ _ (grammar.guarded ts us ds f h k) =
 clause_leads : (cs : List ClauseForm) (before : ClauseForm) (ts : List Token) (c : ClauseForm) → ReadsClause ts c
     → program_run (program_at cs before outside) ts ≡ Some (program_at (cs ++ (c ∷ [])) (headed []) outside)
 clause_leads cs before _ _ (a_clause spot ts us ds p ss h k) =
+    let b = body_leads cs ds p spot us ss k in
     run_over _ _ ts _ (opening_leads cs before ts ds p h)
-    ∙ run_step _ _ _ us _ (body_leads cs ds p spot us ss k) (closed_step cs (clause_of ds p ss) spot)
+    ∙ run_step _ _ _ us _ b.runs
+    (spot_step cs (clause_of ds p ss) spot b.at _ b.there (inr refl) ∙ closed_step cs (clause_of ds p ss) spot)
 
 pub clauses_lead : (ts : List Token) (cs : List ClauseForm) → ReadsClauses ts cs
     → program_run program_start ts ≡ Some (program_at cs (headed []) outside)
@@ -329,13 +419,14 @@ head_stands_lead ts cs ds h =
     rw h.split
     (run_on _ _ _ h.clauses h.head (clauses_lead h.clauses cs h.before) (head_leads cs (headed []) h.head ds h.reads))
 
-pub body_stands_lead : (spot : Spot) (ts : List Token) (cs : List ClauseForm) (c : ClauseForm)
-    → BodyStands spot ts cs c → program_run program_start ts ≡ Some (program_at cs c (body spot))
-body_stands_lead spot ts cs c h =
+pub body_stands_lead : (ts : List Token) (cs : List ClauseForm) (c : ClauseForm) → BodyStands before_statement ts cs c
+    → program_run program_start ts ≡ Some (program_at cs c (body before_statement))
+body_stands_lead ts cs c h =
+    let b = body_leads cs c.descriptions c.predicate before_statement h.body c.statements h.reads in
     rw h.split
     (run_on _ _ _ h.clauses (h.opening ++ h.body) (clauses_lead h.clauses cs h.before)
     (run_on _ _ _ h.opening h.body (opening_leads cs (headed []) h.opening c.descriptions c.predicate h.reads_opening)
-    (body_leads cs c.descriptions c.predicate spot h.body c.statements h.reads)))
+    (b.runs ∙ ap Some b.there)))
 
 -- where a program's beginning with an aggregation's keys leads
 pub record KeysStandLead (ts : List Token) (cs : List ClauseForm) (c : ClauseForm) (name : List ℕ)
@@ -352,7 +443,7 @@ keys_stand_lead ts cs c name keys h = record {
   back = h.back;
   keys_lead = keys_lead cs c name h.back keys h.reads;
   runs = λ t next k. rw (split_last ts h.front _ t h.split)
-      (run_over _ _ h.front _ (body_stands_lead before_statement h.front cs c h.stands) ∙ k);
+      (run_over _ _ h.front _ (body_stands_lead h.front cs c h.stands) ∙ k);
 }
 
 pub target_stands_lead : (ts us : List Token) (cs : List ClauseForm) (c : ClauseForm) (name : List ℕ)
@@ -360,7 +451,7 @@ pub target_stands_lead : (ts us : List Token) (cs : List ClauseForm) (c : Clause
     → program_run program_start (ts ++ (token.Sign sign.Equal ∷ us)) ≡ program_run (program_at cs c (inside (assigned name keys))) us
 target_stands_lead ts us cs c name keys h =
     rw (split_two ts h.front h.back (token.Sign sign.Equal ∷ us) h.split)
-    (run_over _ _ h.front _ (body_stands_lead before_statement h.front cs c h.stands)
+    (run_over _ _ h.front _ (body_stands_lead h.front cs c h.stands)
     ∙ target_over cs c name keys h.back us h.reads)
 
 given_other : (cs : List ClauseForm) (c : ClauseForm) (name : List ℕ) (keys : List ArgForm) (fn : Function)
@@ -382,11 +473,13 @@ pub slot_leads : (slot : Slot) (ts : List Token) (cs : List ClauseForm) (c : Cla
 unfolding program_run program_step
 slot_leads _ _ _ _ (stand.a_predicate ts cs ds h) = run_over _ _ ts _ (head_stands_lead ts cs ds h)
 slot_leads _ _ _ _ (stand.an_argument ts cs c a n h) =
-    run_over _ _ ts _ (body_stands_lead before_statement ts cs c h) ∙ ap Some (given_number cs c a n)
-slot_leads _ _ _ _ (stand.first_key ts cs c name h) = run_over _ _ ts _ (body_stands_lead before_statement ts cs c h)
+    run_over _ _ ts _ (body_stands_lead ts cs c h) ∙ ap Some (given_number cs c a n)
+slot_leads _ _ _ _ (stand.first_key ts cs c name h) = run_over _ _ ts _ (body_stands_lead ts cs c h)
 slot_leads _ _ _ _ (stand.a_key ts cs c name keys h) =
     let k = keys_stand_lead ts cs c name keys h in
     k.runs _ _ (key_ends cs c name k.back keys (token.Sign sign.Comma) _ k.keys_lead refl
     (ap (λ (x : List ArgForm). Some (entered cs c (key name x))) (sym k.keys_lead.keys_are)))
+slot_leads _ _ _ _ (stand.a_variable ts us cs c name h k) =
+    run_over _ _ ts _ (body_stands_lead ts cs c h) ∙ local_over cs c name us [] k
 slot_leads _ _ _ _ (stand.a_value ts cs c name keys fn n h) =
     target_stands_lead ts _ cs c name keys h ∙ ap Some (given_other cs c name keys fn n)

@@ -78,6 +78,31 @@ pub record Steps (s : ProgramState) (t : Token) : Type 0 where
   pub next : ProgramState
   pub steps : program_step s t ≡ Some next
 
+-- one token leads on by a step
+pub steps_to : (s next : ProgramState) (t : Token) → program_run s (t ∷ []) ≡ Some next → program_step s t ≡ Some next
+unfolding program_run
+steps_to s next t h = go (program_step s t) refl h
+  where
+    go : (o : Option ProgramState) → program_step s t ≡ o → option_and_then (λ n. program_run n []) o ≡ Some next
+        → program_step s t ≡ Some next
+    go None e k = absurd (none_some k)
+    go (Some m) e k = e ∙ k
+
+-- Two tokens lead on by two steps.
+pub record TwoSteps (s next : ProgramState) (t u : Token) : Type 0 where
+  pub middle : ProgramState
+  pub first : program_step s t ≡ Some middle
+  pub second : program_step middle u ≡ Some next
+
+pub two_steps : (s next : ProgramState) (t u : Token) → program_run s (t ∷ u ∷ []) ≡ Some next → TwoSteps s next t u
+unfolding program_run
+two_steps s next t u h = go (program_step s t) refl h
+  where
+    go : (o : Option ProgramState) → program_step s t ≡ o
+        → option_and_then (λ n. program_run n (u ∷ [])) o ≡ Some next → TwoSteps s next t u
+    go None e k = absurd (none_some k)
+    go (Some m) e k = record { middle = m; first = e; second = steps_to m next u k }
+
 steps_run : (s next : ProgramState) (t : Token) → program_run s (t ∷ []) ≡ Some next → Steps s t
 unfolding program_run
 steps_run s next t h = go (program_step s t) refl h

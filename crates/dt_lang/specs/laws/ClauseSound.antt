@@ -1,8 +1,8 @@
 -- What a step of the reading of programs says of the tokens that were read.
 use Rattle.std.proofs.Common.{◌≡◌, ◌≢◌, ℕ, ◌+◌, leb, Bool, true, false, ◌&&◌, List, [], ◌∷◌, ◌++◌, Option, Some, None, Ok}
 use Rattle.std.proofs.Common.{refl, sym, ap, ◌∙◌, subst, append_assoc, append-nil, length-append, ℤ, pos, leb-true}
-use Rattle.std.proofs.Common.{if◌then◌else◌}
-use Rattle.std.specs.Prelude.{option_and_then}
+use Rattle.std.proofs.Common.{if◌then◌else◌, length, eqb, eqb-true, arith}
+use Rattle.std.specs.Prelude.{option_and_then, option_map}
 use Rattle.dt_expr.specs.Form.{Form}
 use Rattle.dt_program.specs.declared.clause.TheConstants.{FRAMES_MAX}
 use Rattle.dt_lang.specs.declared.token.Sign.TheVariants as sign
@@ -12,20 +12,26 @@ use Rattle.dt_lang.specs.declared.word.Action.{Action}
 use Rattle.dt_lang.specs.declared.word.Action.TheVariants as action
 use Rattle.dt_lang.specs.declared.word.Function.{Function}
 use Rattle.dt_lang.specs.declared.word.Function.TheVariants as function
+use Rattle.dt_lang.specs.declared.word.Keyword.TheVariants as keyword
+use Rattle.dt_lang.specs.declared.word.Word.{Word}
 use Rattle.dt_lang.specs.declared.word.Word.TheVariants as word
-use Rattle.dt_lang.specs.Expression.{ReadsExpr, ReadsArgument}
+use Rattle.dt_lang.specs.Word.{word_bytes}
+use Rattle.dt_lang.specs.Expression.{ReadsExpr, ReadsArgument, a_local}
 use Rattle.dt_lang.specs.machine.ExpressionState as expression
 use Rattle.dt_lang.specs.Grammar.{ReadsBounds, by_one, stepped, call_of, ReadsCall, counting, of_one, in_levels}
 use Rattle.dt_lang.specs.Grammar.{statement_of, IsFrameCount, ReadsStatement, of_argument, of_stack, of_ustack, aggregating}
+use Rattle.dt_lang.specs.Grammar.{assigning}
 use Rattle.dt_lang.specs.Grammar.{before_statement, after_statement, ReadsClauses}
 use Rattle.dt_lang.specs.Grammar as grammar
-use Rattle.dt_program.specs.Clause.{ArgForm, number, CallForm, count, lquantize, StatementForm, aggregate}
+use Rattle.dt_program.specs.Clause.{ArgForm, number, CallForm, count, lquantize, StatementForm, aggregate, assign}
 use Rattle.dt_program.specs.Clause.{ClauseForm}
 use Rattle.dt_lang.specs.Stand.{HeadStands, BodyStands, KeysStand, TargetStands, Slot, predicate, given, key}
-use Rattle.dt_lang.specs.Stand.{value, divides_in, SlotOpens, a_predicate, an_argument, first_key, a_key}
-use Rattle.dt_lang.specs.Stand.{a_value}
+use Rattle.dt_lang.specs.Stand.{value, assignment, divides_in, SlotOpens, a_predicate, an_argument, first_key, a_key}
+use Rattle.dt_lang.specs.Stand.{a_value, a_variable}
 use Rattle.dt_lang.specs.machine.ClauseState.{BoundForm, at_lower, at_upper, at_step, PlaceForm, outside, described, listed, InsideForm, inside, inside_step_from}
 use Rattle.dt_lang.specs.machine.ClauseState.{guarded, body, called, stack_opened, closing, named, keyed, assigned, applied, within}
+use Rattle.dt_lang.specs.machine.ClauseState.{self_read, arrow_read, variable, drawing, from_self, from_arrow, from_variable, from_drawing}
+use Rattle.dt_lang.specs.machine.ClauseState.{shut_assignment, begin_draw, end_within, is_speculation}
 use Rattle.dt_lang.specs.machine.ClauseState.{bounding, negating, bounded, ProgramState, program_at, headed, with_statement}
 use Rattle.dt_lang.specs.machine.ClauseState.{ended, entered, from_outside, from_described, from_listed, from_guarded}
 use Rattle.dt_lang.specs.machine.ClauseState.{from_before_statement, from_after_statement, after_call, from_called, stack_of, from_stack_opened, from_closing}
@@ -34,9 +40,9 @@ use Rattle.dt_lang.specs.machine.ClauseState.{shut_predicate, shut_given, shut_k
 use Rattle.dt_lang.specs.machine.ClauseState.{go_on, from_within, from_bounding, from_negating, from_bounded, program_step_from}
 use Rattle.dt_lang.specs.machine.ClauseState.{program_step, program_run, program_start}
 use Rattle.dt_lang.specs.laws.ExpressionLaws.{sound, sound_argument, run-append}
-use Rattle.dt_lang.specs.laws.Reading.{HeadRead, ListRead, GuardRead, Follows, FollowsTarget, Closing, Within, BoundsBegin}
+use Rattle.dt_lang.specs.laws.Reading.{HeadRead, ListRead, GuardRead, Follows, FollowsTarget, FollowsLocal, Closing, Within, BoundsBegin}
 use Rattle.dt_lang.specs.laws.Reading.{Levels, Bounded, stack_action, ReadInside, ReadAt, Read, split_last, split_three, split_four}
-use Rattle.dt_lang.specs.laws.Reading.{split_levels, head_begins, head_goes_on, body_begins, guarded_body_begins}
+use Rattle.dt_lang.specs.laws.Reading.{split_value, split_draw, split_levels, head_begins, head_goes_on, body_begins, guarded_body_begins}
 use Rattle.dt_lang.specs.laws.Reading.{body_separated, body_stated, body_closed}
 
 pub none_some : {A : Type 0} {x : A} → None ≡ Some x → ⊥
@@ -98,6 +104,8 @@ sound_before_statement : (cs : List ClauseForm) (c : ClauseForm) (ts : List Toke
 sound_before_statement cs c ts (token.Sign sign.Semicolon) next h e = landed _ _ _ e (body_separated before_statement ts cs c h)
 sound_before_statement cs c ts (token.Sign sign.CloseBrace) next h e = landed _ _ _ e (body_closed before_statement ts cs c h)
 sound_before_statement cs c ts (token.Word (word.Action a)) next h e =
+    landed _ _ _ e (record { front = ts; split = refl; stands = h })
+sound_before_statement cs c ts (token.Word (word.Keyword keyword.ThreadLocal)) next h e =
     landed _ _ _ e (record { front = ts; split = refl; stands = h })
 sound_before_statement cs c ts (token.Aggregation name) next h e =
     landed _ _ _ e (record { front = ts; split = refl; stands = h })
@@ -440,6 +448,65 @@ sound_value cs c name keys fn n e ts (number f) (token.Sign sign.Comma) next h d
     levels_begin cs c name keys fn n e ts f next h d k
 sound_value cs c name keys fn n e ts a t next h d k = absurd (none_some k)
 
+-- a thread-local variable's value
+opens_assignment : {ts : List Token} {cs : List ClauseForm} {c : ClauseForm} {name : List ℕ}
+    → SlotOpens (assignment name) ts cs c → FollowsLocal (token.Sign sign.Equal ∷ []) ts cs c name
+opens_assignment (a_variable ts us cs c name h r) =
+    record { front = ts; back = us; split = refl; stands = h; reads = r }
+
+assigned_whole : (cs : List ClauseForm) (c : ClauseForm) (name : List ℕ) (n : ℕ) (e : expression.State)
+    (ts : List Token) (f : Form) → Within ts cs c (assignment name) n e → expression.done e ≡ Some (number f)
+    → BodyStands after_statement ts cs (with_statement c (assign name f))
+assigned_whole cs c name n e ts f h d =
+    let o = opens_assignment h.opens in
+    body_stated ts o.front (o.back ++ (token.Sign sign.Equal ∷ h.back)) cs c (assign name f)
+    (split_value ts h.front h.back o.front o.back _ h.split o.split) o.stands
+    (assigning o.back h.back name f o.reads (expression_of ts cs c (assignment name) n e f h d))
+
+sound_assignment : (cs : List ClauseForm) (c : ClauseForm) (name : List ℕ) (n : ℕ) (e : expression.State)
+    (ts : List Token) (a : ArgForm) (t : Token) (next : ProgramState) → Within ts cs c (assignment name) n e
+    → expression.done e ≡ Some a → shut_assignment cs c name a t ≡ Some next → Read next (ts ++ (t ∷ []))
+sound_assignment cs c name n e ts (number f) t next h d k =
+    sound_after_statement cs (with_statement c (assign name f)) ts t next (assigned_whole cs c name n e ts f h d) k
+sound_assignment cs c name n e ts a t next h d k = absurd (none_some k)
+
+-- `speculation` where a variable's value begins
+if_met : {A : Type 0} (b : Bool) (x y : A) → (if b then Some x else None) ≡ Some y → (b ≡ true) × (x ≡ y)
+if_met true x y e = (refl, same_some e)
+if_met false x y e = absurd (none_some e)
+
+speculation_is : (t : Token) → is_speculation t ≡ true → t ≡ token.Word (word.Keyword keyword.Speculation)
+speculation_is (token.Word (word.Keyword keyword.Speculation)) e = refl
+speculation_is _ e = cc
+
+nothing_read : (ts : List Token) (n : ℕ) → n ≡ length ts → eqb n 0 ≡ true → ts ≡ []
+nothing_read [] n c e = refl
+nothing_read (t ∷ ts) n c e = let k = eqb-true n 0 e in absurd (omega arith)
+
+draw_begins : (cs : List ClauseForm) (c : ClauseForm) (name : List ℕ) (n : ℕ) (e : expression.State) (ts : List Token)
+    (t : Token) → Within ts cs c (assignment name) n e → eqb n 0 && is_speculation t ≡ true
+    → Read (program_at cs c (inside (drawing name))) (ts ++ (t ∷ []))
+draw_begins cs c name n e ts t h k =
+    let o = opens_assignment h.opens in
+    let none : h.back ≡ [] = nothing_read h.back n h.counts (both_left _ _ k) in
+    let is = speculation_is t (both_right (eqb n 0) _ k) in
+    record {
+      front = o.front;
+      back = o.back;
+      split = split_draw ts h.front h.back o.front o.back _ t h.split none o.split
+          ∙ ap (λ (x : Token). o.front ++ (o.back ++ (token.Sign sign.Equal ∷ x ∷ []))) is;
+      stands = o.stands;
+      reads = o.reads;
+    }
+
+sound_begin_draw : (cs : List ClauseForm) (c : ClauseForm) (slot : Slot) (n : ℕ) (e : expression.State)
+    (ts : List Token) (t : Token) (next : ProgramState) → Within ts cs c slot n e
+    → begin_draw cs c slot n t ≡ Some next → Read next (ts ++ (t ∷ []))
+sound_begin_draw cs c (assignment name) n e ts t next h k =
+    let m = if_met (eqb n 0 && is_speculation t) (program_at cs c (inside (drawing name))) next k in
+    subst (λ (x : ProgramState). Read x (ts ++ (t ∷ []))) m.1 (draw_begins cs c name n e ts t h m.0)
+sound_begin_draw cs c _ n e ts t next h k = absurd (none_some k)
+
 sound_shut : (cs : List ClauseForm) (c : ClauseForm) (slot : Slot) (n : ℕ) (e : expression.State) (ts : List Token)
     (a : ArgForm) (t : Token) (next : ProgramState) → Within ts cs c slot n e → expression.done e ≡ Some a
     → shut cs c slot t a ≡ Some next → Read next (ts ++ (t ∷ []))
@@ -447,12 +514,13 @@ sound_shut cs c predicate n e ts a t next h d k = sound_predicate cs c n e ts a 
 sound_shut cs c (given action) n e ts a t next h d k = sound_given cs c action n e ts a t next h d k
 sound_shut cs c (key name keys) n e ts a t next h d k = sound_key cs c name keys n e ts a t next h d k
 sound_shut cs c (value name keys fn) n e ts a t next h d k = sound_value cs c name keys fn n e ts a t next h d k
+sound_shut cs c (assignment name) n e ts a t next h d k = sound_assignment cs c name n e ts a t next h d k
 
 sound_done : (cs : List ClauseForm) (c : ClauseForm) (slot : Slot) (n : ℕ) (e : expression.State) (ts : List Token)
     (t : Token) (next : ProgramState) (d : Option ArgForm) → expression.done e ≡ d → Within ts cs c slot n e
-    → option_and_then (shut cs c slot t) d ≡ Some next → Read next (ts ++ (t ∷ []))
+    → end_within cs c slot n t d ≡ Some next → Read next (ts ++ (t ∷ []))
 sound_done cs c slot n e ts t next (Some a) m h k = sound_shut cs c slot n e ts a t next h m k
-sound_done cs c slot n e ts t next None m h k = absurd (none_some k)
+sound_done cs c slot n e ts t next None m h k = sound_begin_draw cs c slot n e ts t next h k
 
 sound_go_on : (cs : List ClauseForm) (c : ClauseForm) (slot : Slot) (n : ℕ) (e : expression.State) (ts : List Token)
     (t : Token) (next : ProgramState) (o : Option expression.State) → expression.step e t ≡ o
@@ -583,6 +651,59 @@ sound_bounded cs c name keys f (at_upper lower) z ts t next h k =
 sound_bounded cs c name keys f (at_step lower upper) z ts t next h k =
     sound_at_step cs c name keys f lower upper z ts t next h k
 
+-- thread-local variables
+sound_self : (cs : List ClauseForm) (c : ClauseForm) (ts : List Token) (t : Token) (next : ProgramState)
+    → Follows (token.Word (word.Keyword keyword.ThreadLocal) ∷ []) ts cs c → from_self cs c t ≡ Some next
+    → Read next (ts ++ (t ∷ []))
+sound_self cs c ts (token.Sign sign.Arrow) next h k = landed _ _ _ k (follows_one _ ts _ cs c h)
+sound_self cs c ts t next h k = absurd (none_some k)
+
+arrow_word : (cs : List ClauseForm) (c : ClauseForm) (w : Word) (ts : List Token) (next : ProgramState)
+    (o : Option (List ℕ)) → word_bytes w ≡ o
+    → Follows (token.Word (word.Keyword keyword.ThreadLocal) ∷ token.Sign sign.Arrow ∷ []) ts cs c
+    → option_map (λ name. program_at cs c (inside (variable name))) o ≡ Some next
+    → Read next (ts ++ (token.Word w ∷ []))
+arrow_word cs c w ts next (Some name) e h k = landed _ _ _ k (record {
+  front = h.front;
+  back = token.Word (word.Keyword keyword.ThreadLocal) ∷ token.Sign sign.Arrow ∷ token.Word w ∷ [];
+  split = rw h.split (simp (append_assoc, append-nil));
+  stands = h.stands;
+  reads = a_local w name e;
+})
+arrow_word cs c w ts next None e h k = absurd (none_some k)
+
+sound_arrow : (cs : List ClauseForm) (c : ClauseForm) (ts : List Token) (t : Token) (next : ProgramState)
+    → Follows (token.Word (word.Keyword keyword.ThreadLocal) ∷ token.Sign sign.Arrow ∷ []) ts cs c
+    → from_arrow cs c t ≡ Some next → Read next (ts ++ (t ∷ []))
+sound_arrow cs c ts (token.Word w) next h k = arrow_word cs c w ts next (word_bytes w) refl h k
+sound_arrow cs c ts t next h k = absurd (none_some k)
+
+sound_variable : (cs : List ClauseForm) (c : ClauseForm) (name : List ℕ) (ts : List Token) (t : Token)
+    (next : ProgramState) → FollowsLocal [] ts cs c name → from_variable cs c name t ≡ Some next
+    → Read next (ts ++ (t ∷ []))
+sound_variable cs c name ts (token.Sign sign.Equal) next h k =
+    let o : SlotOpens (assignment name) (h.front ++ (h.back ++ (token.Sign sign.Equal ∷ []))) cs c =
+    a_variable h.front h.back cs c name h.stands h.reads in
+    let e : ts ++ (token.Sign sign.Equal ∷ []) ≡ h.front ++ (h.back ++ (token.Sign sign.Equal ∷ [])) =
+    rw h.split (simp (append_assoc, append-nil)) in
+    landed _ _ _ k (enters _ _ _ (assignment name)
+    (subst (λ (x : List Token). SlotOpens (assignment name) x cs c) (sym e) o))
+sound_variable cs c name ts t next h k = absurd (none_some k)
+
+sound_drawing : (cs : List ClauseForm) (c : ClauseForm) (name : List ℕ) (ts : List Token) (t : Token)
+    (next : ProgramState)
+    → FollowsLocal (token.Sign sign.Equal ∷ token.Word (word.Keyword keyword.Speculation) ∷ []) ts cs c name
+    → from_drawing cs c name t ≡ Some next → Read next (ts ++ (t ∷ []))
+sound_drawing cs c name ts (token.Sign sign.OpenParen) next h k = landed _ _ _ k (record {
+  front = h.front;
+  back = h.back ++ (token.Sign sign.Equal ∷ token.Word (word.Keyword keyword.Speculation) ∷ token.Sign sign.OpenParen
+      ∷ []);
+  split = rw h.split (simp append_assoc);
+  stands = h.stands;
+  reads = rw append_assoc (grammar.drawing h.back name h.reads);
+})
+sound_drawing cs c name ts t next h k = absurd (none_some k)
+
 sound_inside : (cs : List ClauseForm) (c : ClauseForm) (p : InsideForm) (ts : List Token) (t : Token)
     (next : ProgramState)
     → ReadInside cs c p ts → inside_step_from cs c p t ≡ Some next → Read next (ts ++ (t ∷ []))
@@ -596,6 +717,10 @@ sound_inside cs c (applied name keys fn) ts t next h k = sound_applied cs c name
 sound_inside cs c (bounding name keys f b) ts t next h k = sound_bounding cs c name keys f b ts t next h k
 sound_inside cs c (negating name keys f b) ts t next h k = sound_negating cs c name keys f b ts t next h k
 sound_inside cs c (bounded name keys f b z) ts t next h k = sound_bounded cs c name keys f b z ts t next h k
+sound_inside cs c self_read ts t next h k = sound_self cs c ts t next h k
+sound_inside cs c arrow_read ts t next h k = sound_arrow cs c ts t next h k
+sound_inside cs c (variable name) ts t next h k = sound_variable cs c name ts t next h k
+sound_inside cs c (drawing name) ts t next h k = sound_drawing cs c name ts t next h k
 
 sound_from : (cs : List ClauseForm) (c : ClauseForm) (p : PlaceForm) (ts : List Token) (t : Token)
     (next : ProgramState)

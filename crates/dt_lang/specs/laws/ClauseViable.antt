@@ -10,14 +10,17 @@ use Rattle.dt_lang.specs.declared.word.Action.{Action}
 use Rattle.dt_lang.specs.declared.word.Action.TheVariants as action
 use Rattle.dt_lang.specs.declared.word.Function.{Function}
 use Rattle.dt_lang.specs.declared.word.Function.TheVariants as function
+use Rattle.dt_expr.specs.declared.scene.TextVariable.TheVariants as variables
+use Rattle.dt_lang.specs.declared.word.Keyword.TheVariants as keyword
 use Rattle.dt_lang.specs.declared.word.Word.TheVariants as word
 use Rattle.dt_lang.specs.machine.ExpressionState as expression
 use Rattle.dt_lang.specs.machine.ExpressionState.{ends_argument}
 use Rattle.dt_lang.specs.Grammar.{TakesNumber, Spot, before_statement, after_statement}
-use Rattle.dt_program.specs.Clause.{ArgForm, number, StatementForm, ClauseForm}
-use Rattle.dt_lang.specs.Stand.{Slot, predicate, given, key, value, divides_in, SlotOpens, an_argument, a_value}
+use Rattle.dt_program.specs.Clause.{ArgForm, number, StatementForm, assign, ClauseForm}
+use Rattle.dt_lang.specs.Stand.{Slot, predicate, given, key, value, assignment, divides_in, SlotOpens, an_argument, a_value}
 use Rattle.dt_lang.specs.machine.ClauseState.{BoundForm, at_lower, at_upper, at_step, PlaceForm, outside, described, listed, InsideForm, inside}
 use Rattle.dt_lang.specs.machine.ClauseState.{guarded, body, called, stack_opened, closing, named, keyed, assigned, applied, within}
+use Rattle.dt_lang.specs.machine.ClauseState.{self_read, arrow_read, variable, drawing}
 use Rattle.dt_lang.specs.machine.ClauseState.{bounding, negating, bounded, ProgramState, program_at, entered, function_given}
 use Rattle.dt_lang.specs.machine.ClauseState.{with_statement, shut, program_step, program_run}
 use Rattle.dt_lang.specs.laws.ExpressionLaws.{complete, run_beginning}
@@ -196,6 +199,13 @@ slot_shuts ts cs c (key name keys) f h = record {
   leads = refl;
   completes = keyed_completes cs c name _;
 }
+slot_shuts ts cs c (assignment name) f h = record {
+  end = token.Sign sign.CloseBrace;
+  next = _;
+  ends_it = refl;
+  leads = refl;
+  completes = whole_clause cs (with_statement c (assign name f)) _;
+}
 slot_shuts ts cs c (value name keys fn) f h = value_shuts cs c name keys fn f (takes_value h)
   where
     takes_value : {ts : List Token} {cs : List ClauseForm} {c : ClauseForm} {name : List ℕ} {keys : List ArgForm}
@@ -253,6 +263,28 @@ function_completes cs c name keys fn ts h =
     (token.Sign sign.OpenParen) h refl in
     back _ _ (token.Sign sign.OpenParen) refl (given_completes cs c name keys fn _ r)
 
+-- thread-local variables
+drawing_completes : (cs : List ClauseForm) (c : ClauseForm) (name : List ℕ)
+    → Completes (program_at cs c (inside (drawing name)))
+unfolding program_step
+drawing_completes cs c name = back _ _ (token.Sign sign.OpenParen) refl (closing_completes cs c _)
+
+variable_completes : (cs : List ClauseForm) (c : ClauseForm) (name : List ℕ)
+    → Completes (program_at cs c (inside (variable name)))
+unfolding program_step expression.step expression.done
+variable_completes cs c name =
+    back _ _ (token.Sign sign.Equal) refl
+    (back (entered cs c (assignment name)) _ (token.Word (word.Keyword keyword.Speculation)) refl
+    (drawing_completes cs c name))
+
+arrow_completes : (cs : List ClauseForm) (c : ClauseForm) → Completes (program_at cs c (inside arrow_read))
+unfolding program_step
+arrow_completes cs c = back _ _ (token.Word (word.Text variables.Execname)) refl (variable_completes cs c _)
+
+self_completes : (cs : List ClauseForm) (c : ClauseForm) → Completes (program_at cs c (inside self_read))
+unfolding program_step
+self_completes cs c = back _ _ (token.Sign sign.Arrow) refl (arrow_completes cs c)
+
 inside_completes : (cs : List ClauseForm) (c : ClauseForm) (p : InsideForm) (ts : List Token) → ReadInside cs c p ts
     → Completes (program_at cs c (inside p))
 inside_completes cs c (called a) ts h = called_completes cs c a ts h
@@ -265,6 +297,10 @@ inside_completes cs c (applied name keys fn) ts h = function_completes cs c name
 inside_completes cs c (bounding name keys f b) ts h = bounding_completes cs c name keys f b
 inside_completes cs c (negating name keys f b) ts h = negating_completes cs c name keys f b
 inside_completes cs c (bounded name keys f b z) ts h = bounded_completes cs c name keys f b z
+inside_completes cs c self_read ts h = self_completes cs c
+inside_completes cs c arrow_read ts h = arrow_completes cs c
+inside_completes cs c (variable name) ts h = variable_completes cs c name
+inside_completes cs c (drawing name) ts h = drawing_completes cs c name
 
 place_completes : (cs : List ClauseForm) (c : ClauseForm) (p : PlaceForm) (ts : List Token) → ReadAt cs c p ts
     → Completes (program_at cs c p)

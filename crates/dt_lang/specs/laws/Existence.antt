@@ -5,7 +5,6 @@ use Rattle.std.proofs.lemmas.Bool.{cases_eq, cases_lt}
 use Rattle.std.specs.Char.{digit_value}
 use Rattle.std.specs.List.{take_while, All, Contains}
 use Rattle.std.specs.Str.Parse.{digits_value, AllDigits}
-use Rattle.dt_names.specs.Limits.{short_text_max}
 use Rattle.dt_expr.specs.Operators.{wrapped}
 use Rattle.dt_program.specs.Description.{DescForm, ReadsDescription}
 use Rattle.dt_program.specs.declared.description.DescriptionFault.{DescriptionFault}
@@ -36,6 +35,7 @@ use Rattle.dt_lang.specs.laws.Fronts.{number_run}
 use Rattle.dt_lang.specs.laws.Lists.{tails}
 use Rattle.dt_lang.specs.laws.Sameness.{Written, no_x, no_zero, same_hexadecimal}
 use Rattle.dt_lang.specs.laws.Signs.{BeginsWithNone, longest_pair, longest_single, no_sign}
+use Rattle.dt_lang.specs.laws.Starts.{name_or_not}
 use Rattle.dt_lang.specs.laws.Words.{named, unknown}
 
 -- words
@@ -68,9 +68,9 @@ search (w ∷ words) name = elim (named_or_not (name_of_word (as_word w)) name) 
 ]
 
 some_kept : (name : List ℕ) → (kept : Option (List ℕ)) × IsKeptName name kept
-some_kept name = elim (cases_lt short_text_max (length name)) [
-  | inl more ↦ (None, more)
-  | inr few ↦ (Some name, (refl, few))
+some_kept name = elim (name_or_not name) [
+  | inl is ↦ (Some name, (refl, is))
+  | inr not ↦ (None, not)
 ]
 
 pub some_word : (name : List ℕ) → (w : Word) × IsWord name w

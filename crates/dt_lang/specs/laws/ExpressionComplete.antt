@@ -1,7 +1,7 @@
 -- What is an expression is read as it.
 use Rattle.std.proofs.Common.{◌≡◌, ℕ, ◌+◌, ◌≤◌, Bool, true, if◌then◌else◌, List, [], ◌∷◌, ◌++◌, Some, None, option_map}
 use Rattle.std.proofs.Common.{refl, ap, ◌∙◌, arith, le-leb}
-use Rattle.dt_expr.specs.Form.{Form, Num, Named, Prefixed, Joined, Compared}
+use Rattle.dt_expr.specs.Form.{Form, Num, Named, Local, Prefixed, Joined, Compared}
 use Rattle.dt_expr.specs.declared.operators.BinaryOp.{BinaryOp}
 use Rattle.dt_expr.specs.declared.operators.UnaryOp.{UnaryOp}
 use Rattle.dt_expr.specs.declared.operators.TextOp.{TextOp}
@@ -10,9 +10,13 @@ use Rattle.dt_lang.specs.declared.token.Sign.{Sign}
 use Rattle.dt_lang.specs.declared.token.Sign.TheVariants as sign
 use Rattle.dt_lang.specs.declared.token.Token.{Token}
 use Rattle.dt_lang.specs.declared.token.Token.TheVariants as token
+use Rattle.dt_lang.specs.declared.word.Keyword.TheVariants as keyword
+use Rattle.dt_lang.specs.declared.word.Word.{Word}
+use Rattle.dt_lang.specs.declared.word.Word.TheVariants as word
+use Rattle.dt_lang.specs.Word.{word_bytes}
 use Rattle.dt_lang.specs.Expression.{binding, OPERAND, comparison_of, EQUALITY, text_token, IsOperator, ReadsExpr}
-use Rattle.dt_lang.specs.Expression.{a_number, a_variable, prefixed, grouped, compared, looser, joined}
-use Rattle.dt_lang.specs.machine.ExpressionState.{PendingForm, opened, before, after, nothing, whole, lone, compares, level_next}
+use Rattle.dt_lang.specs.Expression.{a_number, a_variable, a_local, thread_local, prefixed, grouped, compared, looser, joined}
+use Rattle.dt_lang.specs.machine.ExpressionState.{PendingForm, opened, before, after, nothing, self_read, arrow_read, whole, lone, compares, level_next}
 use Rattle.dt_lang.specs.machine.ExpressionState.{Closed, close, state, wait, leave, step, run}
 use Rattle.dt_lang.specs.laws.ExpressionSteps.{run_more, run_step, run_one, binding-lt, close_stays, close_ends}
 use Rattle.dt_lang.specs.laws.ExpressionSteps.{begins_sign, begins_text, follows, leaves}
@@ -34,6 +38,24 @@ arrives_alone divides pending f t h = record {
   bound = OPERAND;
   form = f;
   runs = run_one (state divides pending nothing) t ∙ h;
+  tight = omega arith;
+  same = λ l k. refl;
+}
+
+arrives_local : (divides : Bool) (pending : List PendingForm) (w : Word) (name : List ℕ) → word_bytes w ≡ Some name
+    → Arrives divides pending OPERAND (Local name)
+    (token.Word (word.Keyword keyword.ThreadLocal) ∷ token.Sign sign.Arrow ∷ token.Word w ∷ [])
+unfolding step
+arrives_local divides pending w name e = record {
+  waiting = pending;
+  bound = OPERAND;
+  form = Local name;
+  runs =
+      let begun = state divides pending self_read in
+      let pointed = state divides pending arrow_read in
+      run_step (state divides pending nothing) begun _ (token.Sign sign.Arrow ∷ token.Word w ∷ []) refl
+      ∙ run_step begun pointed _ (token.Word w ∷ []) refl ∙ run_one pointed (token.Word w)
+      ∙ ap (option_map (λ (x : List ℕ). state divides pending (whole OPERAND (Local x)))) e;
   tight = omega arith;
   same = λ l k. refl;
 }
@@ -121,6 +143,7 @@ pub arrives : {divides : Bool} {level : ℕ} {ts : List Token} {f : Form} → Re
 unfolding step
 arrives (a_number divides z) pending h = arrives_alone divides pending (Num z) (token.Number z) refl
 arrives (a_variable divides v) pending h = arrives_alone divides pending (Named v) _ refl
+arrives (thread_local divides _ _ (a_local w name e)) pending h = arrives_local divides pending w name e
 arrives (prefixed divides s op ts f p e) pending h =
     arrives_prefixed divides pending s op ts f (begins_sign divides pending s op p)
     (arrives e (before op ∷ pending) (omega arith))

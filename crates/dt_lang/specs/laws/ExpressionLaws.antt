@@ -11,10 +11,11 @@
 --     ends               run (start divides) ts ≡ Some s → done s ≡ Some a → ends_argument divides t ≡ true
 --                        → step s t ≡ None
 --     foreign            is_foreign t ≡ true → step s t ≡ None
---     number_goes_on     is_number t ≡ true → is_some (step s t) ≡ takes_number s
---     text_goes_on       text_of t ≡ Some a → is_some (step s t) ≡ takes_text s
+--     foreign_word       wants s ≡ true → begins_nothing w ≡ true → step s (Word w) ≡ None
+--     bang_goes_on       is_some (step s (Sign Bang)) ≡ takes_number s
+--     string_goes_on     is_some (step s (String [])) ≡ takes_text s
 --     wants_operand      (takes_number s || takes_text s) ≡ wants s
---     no_operand         wants s ≡ false → is_operand t ≡ true → step s t ≡ None
+--     waits_undone       wants s ≡ true → done s ≡ None
 --     done_wants_none    done s ≡ Some a → wants s ≡ false
 --     one_form           ReadsExpr divides 0 ts f → ReadsExpr divides 0 ts g → f ≡ g
 --     one_argument       ReadsArgument ts a → ReadsArgument ts b → a ≡ b
@@ -29,8 +30,9 @@
 use Rattle.std.proofs.Common.{◌≡◌, ℕ, leb, Bool, true, false, ◌||◌, if◌then◌else◌, List, [], ◌∷◌, ◌++◌, Option, Some}
 use Rattle.std.proofs.Common.{None, is_some, is_none, option_map, option_and_then, refl, sym, ap, ◌∙◌, subst, arith}
 use Rattle.std.proofs.Common.{pos}
+use Rattle.std.specs.Prelude.{codes}
 use Rattle.std.proofs.Math.Dec.{leb-zero}
-use Rattle.dt_expr.specs.Form.{Form, Num, Prefixed, Joined, Compared}
+use Rattle.dt_expr.specs.Form.{Form, Num, Local, Prefixed, Joined, Compared}
 use Rattle.dt_expr.specs.declared.operators.TextOp.{TextOp}
 use Rattle.dt_expr.specs.declared.operators.TextOp.TheVariants as comparison
 use Rattle.dt_expr.specs.declared.scene.TextVariable.TheVariants as variable
@@ -40,13 +42,15 @@ use Rattle.dt_lang.specs.declared.token.Sign.{Sign}
 use Rattle.dt_lang.specs.declared.token.Sign.TheVariants as sign
 use Rattle.dt_lang.specs.declared.token.Token.{Token}
 use Rattle.dt_lang.specs.declared.token.Token.TheVariants as token
+use Rattle.dt_lang.specs.declared.word.Keyword.TheVariants as keyword
+use Rattle.dt_lang.specs.declared.word.Word.{Word}
 use Rattle.dt_lang.specs.declared.word.Word.TheVariants as word
 use Rattle.dt_lang.specs.Expression.{BeginsExpr, OPERAND, EQUALITY, text_token, comparison_of, ReadsExpr, ReadsArgument}
 use Rattle.dt_lang.specs.Expression.{a_text, an_expression}
-use Rattle.dt_lang.specs.machine.ExpressionState.{IsRead, IsReadBy, IsOneText, RunsBy, is_operand, PendingForm, opened, before}
-use Rattle.dt_lang.specs.machine.ExpressionState.{after, HandForm, nothing, whole, lone, compares, State, level_next, Closed}
-use Rattle.dt_lang.specs.machine.ExpressionState.{close, state, start, operator_in, join, leave, follow_sign, follow, compare}
-use Rattle.dt_lang.specs.machine.ExpressionState.{begin_sign, begin, is_foreign_sign, is_foreign, is_number, ends_argument}
+use Rattle.dt_lang.specs.machine.ExpressionState.{IsRead, IsReadBy, IsOneText, RunsBy, PendingForm, opened, before}
+use Rattle.dt_lang.specs.machine.ExpressionState.{after, HandForm, nothing, self_read, arrow_read, whole, lone, compares, State, level_next, Closed}
+use Rattle.dt_lang.specs.machine.ExpressionState.{close, state, start, operator_in, join, leave, follow_sign, follow, point, compare}
+use Rattle.dt_lang.specs.machine.ExpressionState.{begin_sign, begin, is_foreign_sign, is_foreign, begins_nothing, ends_argument}
 use Rattle.dt_lang.specs.machine.ExpressionState.{step, run, number_alone, done_from, done, wants, wants_at, takes_number}
 use Rattle.dt_lang.specs.machine.ExpressionState.{takes_number_at, takes_text, takes_text_at, step_from}
 use Rattle.dt_program.specs.Clause.{ArgForm, number, text}
@@ -180,6 +184,15 @@ compares_finishes divides pending op a =
     finishes_first (state divides pending (compares op a)) (state divides pending (whole EQUALITY form)) _ _ refl
     (finishes pending form divides pending EQUALITY form refl)
 
+-- a variable's name, which is a word that the language knows
+arrow_finishes : (divides : Bool) (pending : List PendingForm)
+    → Finishes (state divides pending arrow_read) (a_text_token ∷ closing pending)
+unfolding step a_text_token
+arrow_finishes divides pending =
+    let form = Local (codes "execname") in
+    finishes_first (state divides pending arrow_read) (state divides pending (whole OPERAND form)) _ _ refl
+    (finishes pending form divides pending OPERAND form refl)
+
 -- each state goes on to a whole expression
 some_finish : (divides : Bool) (pending : List PendingForm) (hand : HandForm)
     → (more : List Token) × Finishes (state divides pending hand) more
@@ -189,6 +202,12 @@ some_finish divides pending nothing = (
   finishes_first (state divides pending nothing) (state divides pending (whole OPERAND (Num (pos 0)))) _ _ refl
       (finishes pending (Num (pos 0)) divides pending OPERAND (Num (pos 0)) refl),
 )
+some_finish divides pending self_read = (
+  token.Sign sign.Arrow ∷ a_text_token ∷ closing pending,
+  finishes_first (state divides pending self_read) (state divides pending arrow_read) _ _ refl
+      (arrow_finishes divides pending),
+)
+some_finish divides pending arrow_read = (a_text_token ∷ closing pending, arrow_finishes divides pending)
 some_finish divides pending (whole level f) = (closing pending, finishes pending f divides pending level f refl)
 some_finish divides pending (compares op a) = (a_text_token ∷ closing pending, compares_finishes divides pending op a)
 some_finish divides pending (lone a) = (
@@ -285,8 +304,7 @@ begin_foreign : (divides : Bool) (pending : List PendingForm) (t : Token) → is
 begin_foreign divides pending (token.Sign s) h = begin_foreign_sign divides pending s h
 begin_foreign divides pending (token.Number z) h = cc
 begin_foreign divides pending (token.String bytes) h = cc
-begin_foreign divides pending (token.Word (word.Number v)) h = cc
-begin_foreign divides pending (token.Word (word.Text v)) h = cc
+begin_foreign divides pending (token.Word w) h = cc
 begin_foreign divides pending _ h = refl
 
 no_foreign_comparison : (s : Sign) → is_foreign_sign s ≡ true → comparison_of s ≡ None
@@ -296,12 +314,21 @@ no_foreign_comparison _ h = refl
 
 no_foreign_text : (t : Token) → is_foreign t ≡ true → text_token t ≡ None
 no_foreign_text (token.String bytes) h = cc
-no_foreign_text (token.Word (word.Text v)) h = cc
+no_foreign_text (token.Word w) h = cc
 no_foreign_text _ h = refl
+
+no_foreign_arrow : (divides : Bool) (pending : List PendingForm) (s : Sign) → is_foreign_sign s ≡ true
+    → point divides pending (token.Sign s) ≡ None
+no_foreign_arrow divides pending sign.Arrow h = cc
+no_foreign_arrow divides pending _ h = refl
 
 foreign_from : (divides : Bool) (pending : List PendingForm) (hand : HandForm) (t : Token) → is_foreign t ≡ true
     → step_from divides pending hand t ≡ None
 foreign_from divides pending nothing t h = begin_foreign divides pending t h
+foreign_from divides pending self_read (token.Sign s) h = no_foreign_arrow divides pending s h
+foreign_from divides pending self_read _ h = refl
+foreign_from divides pending arrow_read (token.Word w) h = cc
+foreign_from divides pending arrow_read _ h = refl
 foreign_from divides pending (whole level f) (token.Sign s) h = follow_foreign_sign divides pending level f s h
 foreign_from divides pending (whole level f) _ h = refl
 foreign_from divides pending (lone a) (token.Sign s) h =
@@ -314,41 +341,50 @@ pub foreign : (s : State) (t : Token) → is_foreign t ≡ true → step s t ≡
 unfolding step
 foreign s t h = foreign_from s.divides s.pending s.hand t h
 
-number_from : (divides : Bool) (pending : List PendingForm) (hand : HandForm) (t : Token) → is_number t ≡ true
-    → is_some (step_from divides pending hand t) ≡ takes_number_at hand
-number_from divides pending nothing (token.Number z) h = refl
-number_from divides pending nothing (token.Word (word.Number v)) h = refl
-number_from divides pending (whole level f) (token.Number z) h = refl
-number_from divides pending (whole level f) (token.Word (word.Number v)) h = refl
-number_from divides pending (lone a) (token.Number z) h = refl
-number_from divides pending (lone a) (token.Word (word.Number v)) h = refl
-number_from divides pending (compares op a) (token.Number z) h = refl
-number_from divides pending (compares op a) (token.Word (word.Number v)) h = refl
-number_from divides pending _ _ h = cc
+begin_nothing : (divides : Bool) (pending : List PendingForm) (w : Word) → begins_nothing w ≡ true
+    → begin divides pending (token.Word w) ≡ None
+begin_nothing divides pending (word.Number v) h = cc
+begin_nothing divides pending (word.Text v) h = cc
+begin_nothing divides pending (word.Keyword keyword.ThreadLocal) h = cc
+begin_nothing divides pending (word.Keyword keyword.Speculation) h = refl
+begin_nothing divides pending _ h = refl
 
-pub number_goes_on : (s : State) (t : Token) → is_number t ≡ true → is_some (step s t) ≡ takes_number s
+nothing_text : (w : Word) → begins_nothing w ≡ true → text_token (token.Word w) ≡ None
+nothing_text (word.Text v) h = cc
+nothing_text _ h = refl
+
+foreign_word_from : (divides : Bool) (pending : List PendingForm) (hand : HandForm) (w : Word) → wants_at hand ≡ true
+    → begins_nothing w ≡ true → step_from divides pending hand (token.Word w) ≡ None
+foreign_word_from divides pending nothing w k h = begin_nothing divides pending w h
+foreign_word_from divides pending (compares op a) w k h =
+    ap (option_map (λ (b : Text). state divides pending (whole EQUALITY (Compared op a b)))) (nothing_text w h)
+foreign_word_from divides pending _ w k h = cc
+
+pub foreign_word : (s : State) (w : Word) → wants s ≡ true → begins_nothing w ≡ true → step s (token.Word w) ≡ None
 unfolding step
-number_goes_on s t h = number_from s.divides s.pending s.hand t h
+foreign_word s w k h = foreign_word_from s.divides s.pending s.hand w k h
+
+bang_from : (divides : Bool) (pending : List PendingForm) (hand : HandForm)
+    → is_some (step_from divides pending hand (token.Sign sign.Bang)) ≡ takes_number_at hand
+bang_from divides pending nothing = refl
+bang_from divides pending _ = refl
+
+pub bang_goes_on : (s : State) → is_some (step s (token.Sign sign.Bang)) ≡ takes_number s
+unfolding step
+bang_goes_on s = bang_from s.divides s.pending s.hand
 
 is_some_if : (b : Bool) (s : State) → is_some (if b then Some s else None) ≡ b
 is_some_if true s = refl
 is_some_if false s = refl
 
-text_from : (divides : Bool) (pending : List PendingForm) (hand : HandForm) (t : Token) (a : Text) → text_token t ≡ Some a
-    → is_some (step_from divides pending hand t) ≡ takes_text_at pending hand
-text_from divides pending nothing (token.String bytes) a h = is_some_if (leb (level_next pending) EQUALITY) _
-text_from divides pending nothing (token.Word (word.Text v)) a h = is_some_if (leb (level_next pending) EQUALITY) _
-text_from divides pending (compares op b) (token.String bytes) a h = refl
-text_from divides pending (compares op b) (token.Word (word.Text v)) a h = refl
-text_from divides pending (whole level f) (token.String bytes) a h = refl
-text_from divides pending (whole level f) (token.Word (word.Text v)) a h = refl
-text_from divides pending (lone b) (token.String bytes) a h = refl
-text_from divides pending (lone b) (token.Word (word.Text v)) a h = refl
-text_from divides pending _ _ a h = cc
+string_from : (divides : Bool) (pending : List PendingForm) (hand : HandForm)
+    → is_some (step_from divides pending hand (token.String [])) ≡ takes_text_at pending hand
+string_from divides pending nothing = is_some_if (leb (level_next pending) EQUALITY) _
+string_from divides pending _ = refl
 
-pub text_goes_on : (s : State) (t : Token) (a : Text) → text_token t ≡ Some a → is_some (step s t) ≡ takes_text s
+pub string_goes_on : (s : State) → is_some (step s (token.String [])) ≡ takes_text s
 unfolding step
-text_goes_on s t a h = text_from s.divides s.pending s.hand t a h
+string_goes_on s = string_from s.divides s.pending s.hand
 
 wants_from : (pending : List PendingForm) (hand : HandForm)
     → (takes_number_at hand || takes_text_at pending hand) ≡ wants_at hand
@@ -405,14 +441,11 @@ complete_by divides ts us f h = read_by divides ts us (number f) (complete divid
 pub complete_argument_by : (ts us : List Token) (a : ArgForm) → ReadsArgument (ts ++ us) a → IsReadBy true ts us a
 complete_argument_by ts us a h = read_by true ts us a (complete_argument (ts ++ us) a h)
 
-operand_from : (divides : Bool) (pending : List PendingForm) (hand : HandForm) (t : Token) → wants_at hand ≡ false
-    → is_operand t ≡ true → step_from divides pending hand t ≡ None
-operand_from divides pending (whole level f) (token.Sign s) h k = cc
-operand_from divides pending (whole level f) _ h k = refl
-operand_from divides pending (lone a) (token.Sign s) h k = cc
-operand_from divides pending (lone a) _ h k = refl
-operand_from divides pending _ t h k = cc
+undone_from : (pending : List PendingForm) (hand : HandForm) → wants_at hand ≡ true → done_from pending hand ≡ None
+undone_from pending (whole level f) h = cc
+undone_from pending (lone a) h = cc
+undone_from pending _ h = refl
 
-pub no_operand : (s : State) (t : Token) → wants s ≡ false → is_operand t ≡ true → step s t ≡ None
-unfolding step
-no_operand s t h k = operand_from s.divides s.pending s.hand t h k
+pub waits_undone : (s : State) → wants s ≡ true → done s ≡ None
+unfolding done
+waits_undone s h = undone_from s.pending s.hand h

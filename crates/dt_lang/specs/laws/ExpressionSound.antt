@@ -2,7 +2,7 @@
 use Rattle.std.proofs.Common.{◌≡◌, ℕ, zero, suc, ◌+◌, ◌-◌, ◌≤◌, leb, Bool, true, false, if◌then◌else◌, List, [], ◌∷◌}
 use Rattle.std.proofs.Common.{◌++◌, Option, Some, None, option_map, option_and_then, IfSome, refl, sym, ap, ◌∙◌, subst}
 use Rattle.std.proofs.Common.{arith, leb-true, leb-false, append_assoc, append-nil, add-zero}
-use Rattle.dt_expr.specs.Form.{Form, Num, Named, Prefixed, Joined, Compared}
+use Rattle.dt_expr.specs.Form.{Form, Num, Named, Local, Prefixed, Joined, Compared}
 use Rattle.dt_expr.specs.declared.operators.BinaryOp.{BinaryOp}
 use Rattle.dt_expr.specs.declared.operators.UnaryOp.{UnaryOp}
 use Rattle.dt_expr.specs.declared.operators.TextOp.{TextOp}
@@ -11,12 +11,15 @@ use Rattle.dt_lang.specs.declared.token.Sign.{Sign}
 use Rattle.dt_lang.specs.declared.token.Sign.TheVariants as sign
 use Rattle.dt_lang.specs.declared.token.Token.{Token}
 use Rattle.dt_lang.specs.declared.token.Token.TheVariants as token
+use Rattle.dt_lang.specs.declared.word.Keyword.TheVariants as keyword
+use Rattle.dt_lang.specs.declared.word.Word.{Word}
 use Rattle.dt_lang.specs.declared.word.Word.TheVariants as word
+use Rattle.dt_lang.specs.Word.{word_bytes}
 use Rattle.dt_lang.specs.Expression.{prefix_of, binding, OPERAND, comparison_of, EQUALITY, text_token, IsOperator}
-use Rattle.dt_lang.specs.Expression.{ReadsExpr, a_number, a_variable, prefixed, grouped, compared, looser, joined}
-use Rattle.dt_lang.specs.machine.ExpressionState.{PendingForm, opened, before, after, HandForm, nothing, whole, lone, compares}
+use Rattle.dt_lang.specs.Expression.{ReadsExpr, a_number, a_variable, a_local, thread_local, prefixed, grouped, compared, looser, joined}
+use Rattle.dt_lang.specs.machine.ExpressionState.{PendingForm, opened, before, after, HandForm, nothing, self_read, arrow_read, whole, lone, compares}
 use Rattle.dt_lang.specs.machine.ExpressionState.{State, level_next, Closed, close, state, start, begin_sign, begin_text, begin}
-use Rattle.dt_lang.specs.machine.ExpressionState.{operator_in, wait, join, leave, follow_sign, follow, compare, step_from, step}
+use Rattle.dt_lang.specs.machine.ExpressionState.{operator_in, wait, join, leave, follow_sign, follow, point, name_variable, compare, step_from, step}
 use Rattle.dt_lang.specs.machine.ExpressionState.{run}
 use Rattle.dt_lang.specs.laws.ExpressionSteps.{binding-lt, operator_is}
 
@@ -45,6 +48,12 @@ pub record HoldsWhole (outer divides : Bool) (pending : List PendingForm) (level
   pub reads : ReadsExpr divides level us f
   pub tokens : ts ≡ front ++ us
 
+-- These tokens lead to what is pending, and then stand these of a thread-local variable.
+pub record HoldsLocal (outer divides : Bool) (pending : List PendingForm) (tail ts : List Token) : Type 0 where
+  pub front : List Token
+  pub waits : Waits outer divides pending front
+  pub tokens : ts ≡ front ++ tail
+
 pub record HoldsText (outer divides : Bool) (pending : List PendingForm) (a : Text) (ts : List Token) : Type 0 where
   pub front : List Token
   pub t : Token
@@ -66,6 +75,10 @@ pub record HoldsCompare (outer divides : Bool) (pending : List PendingForm) (op 
 
 abbrev pub Holds : (outer divides : Bool) → List PendingForm → HandForm → List Token → Type 0
 Holds outer divides pending nothing ts = Waits outer divides pending ts
+Holds outer divides pending self_read ts =
+    HoldsLocal outer divides pending (token.Word (word.Keyword keyword.ThreadLocal) ∷ []) ts
+Holds outer divides pending arrow_read ts =
+    HoldsLocal outer divides pending (token.Word (word.Keyword keyword.ThreadLocal) ∷ token.Sign sign.Arrow ∷ []) ts
 Holds outer divides pending (whole level f) ts = HoldsWhole outer divides pending level f ts
 Holds outer divides pending (lone a) ts = HoldsText outer divides pending a ts
 Holds outer divides pending (compares op a) ts = HoldsCompare outer divides pending op a ts
@@ -218,8 +231,43 @@ begin_holds outer divides pending (token.Word (word.Text v)) ts w =
     begin_text_holds outer divides pending (token.Word (word.Text v)) _ ts refl w
 begin_holds outer divides pending (token.String bytes) ts w =
     begin_text_holds outer divides pending (token.String bytes) _ ts refl w
+begin_holds outer divides pending (token.Word (word.Keyword keyword.ThreadLocal)) ts w =
+    record { front = ts; waits = w; tokens = refl }
 begin_holds outer divides pending (token.Sign s) ts w = begin_sign_holds outer divides pending s ts w
 begin_holds outer divides pending _ ts w = tt
+
+point_holds : (outer divides : Bool) (pending : List PendingForm) (t : Token) (ts : List Token)
+    → Holds outer divides pending self_read ts → Leads outer (ts ++ (t ∷ [])) (point divides pending t)
+point_holds outer divides pending (token.Sign sign.Arrow) ts h = record {
+  front = h.front;
+  waits = h.waits;
+  tokens = ap (λ (x : List Token). x ++ (token.Sign sign.Arrow ∷ [])) h.tokens ∙ append_assoc h.front _ _;
+}
+point_holds outer divides pending _ ts h = tt
+
+name_word_holds : (outer divides : Bool) (pending : List PendingForm) (w : Word) (ts : List Token)
+    → Holds outer divides pending arrow_read ts
+    → Leads outer (ts ++ (token.Word w ∷ [])) (name_variable divides pending (token.Word w))
+name_word_holds outer divides pending w ts h = go (word_bytes w) refl
+  where
+    go : (o : Option (List ℕ)) → word_bytes w ≡ o
+        → Leads outer (ts ++ (token.Word w ∷ []))
+        (option_map (λ name. state divides pending (whole OPERAND (Local name))) o)
+    go None q = tt
+    go (Some name) q = record {
+      front = h.front;
+      us = token.Word (word.Keyword keyword.ThreadLocal) ∷ token.Sign sign.Arrow ∷ token.Word w ∷ [];
+      waits = h.waits;
+      loose = level_next-le pending;
+      bound = omega arith;
+      reads = thread_local divides _ name (a_local w name q);
+      tokens = ap (λ (x : List Token). x ++ (token.Word w ∷ [])) h.tokens ∙ append_assoc h.front _ _;
+    }
+
+name_holds : (outer divides : Bool) (pending : List PendingForm) (t : Token) (ts : List Token)
+    → Holds outer divides pending arrow_read ts → Leads outer (ts ++ (t ∷ [])) (name_variable divides pending t)
+name_holds outer divides pending (token.Word w) ts h = name_word_holds outer divides pending w ts h
+name_holds outer divides pending _ ts h = tt
 
 leave_holds : (outer divides : Bool) (pending : List PendingForm) (f : Form) (ts front us : List Token)
     → Waits outer divides pending front → ReadsExpr divides 0 us f → ts ≡ front ++ us
@@ -325,6 +373,8 @@ second_holds outer divides pending op a t ts h = go (text_token t) refl
 step_from_holds : (outer divides : Bool) (pending : List PendingForm) (hand : HandForm) (t : Token) (ts : List Token)
     → Holds outer divides pending hand ts → Leads outer (ts ++ (t ∷ [])) (step_from divides pending hand t)
 step_from_holds outer divides pending nothing t ts h = begin_holds outer divides pending t ts h
+step_from_holds outer divides pending self_read t ts h = point_holds outer divides pending t ts h
+step_from_holds outer divides pending arrow_read t ts h = name_holds outer divides pending t ts h
 step_from_holds outer divides pending (whole level f) t ts h = follow_holds outer divides pending level f t ts h
 step_from_holds outer divides pending (lone a) t ts h = compare_holds outer divides pending a t ts h
 step_from_holds outer divides pending (compares op a) t ts h = second_holds outer divides pending op a t ts h

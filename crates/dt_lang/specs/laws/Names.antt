@@ -1,10 +1,9 @@
 -- No two signs are spelled alike, and no two words have one name.
-use Rattle.std.proofs.Common.{◌≡◌, ◌≢◌, ℕ, ◌≤◌, ◌⊎◌, inl, inr, Bool, false, List, ◌++◌, length, Option, Some, None, refl, sym, ap}
-use Rattle.std.proofs.Common.{◌∙◌, arith}
+use Rattle.std.proofs.Common.{◌≡◌, ◌≢◌, ℕ, ◌⊎◌, inl, inr, Bool, false, List, ◌++◌, Option, Some, None, refl, sym, ap}
+use Rattle.std.proofs.Common.{◌∙◌}
 use Rattle.std.specs.List.{find}
 use Rattle.std.specs.Option.{option_map}
 use Rattle.std.specs.Str.{bytes_eq}
-use Rattle.dt_names.specs.Limits.{short_text_max}
 use Rattle.dt_expr.specs.declared.scene.NumberVariable.TheVariants as number
 use Rattle.dt_expr.specs.declared.scene.TextVariable.TheVariants as text
 use Rattle.dt_lang.specs.Lexeme.{OPENING}
@@ -16,6 +15,7 @@ use Rattle.dt_lang.specs.declared.token.Sign.TheVariants as sign
 use Rattle.dt_lang.specs.declared.word.Action.TheVariants as action
 use Rattle.dt_lang.specs.declared.word.Function.TheVariants as function
 use Rattle.dt_lang.specs.declared.word.Destructive.TheVariants as destructive
+use Rattle.dt_lang.specs.declared.word.Keyword.TheVariants as keyword
 use Rattle.dt_lang.specs.declared.word.TheConstants.{WORDS}
 use Rattle.dt_lang.specs.declared.word.Word.{Word}
 use Rattle.dt_lang.specs.declared.word.Word.TheVariants as word
@@ -54,6 +54,8 @@ word_of-name (word.Function function.Count) n = refl
 word_of-name (word.Function _) n = refl
 word_of-name (word.Destructive destructive.Stop) n = refl
 word_of-name (word.Destructive _) n = refl
+word_of-name (word.Keyword keyword.ThreadLocal) n = refl
+word_of-name (word.Keyword keyword.Speculation) n = refl
 word_of-name (word.Number number.Arg0) n = refl
 word_of-name (word.Number _) n = refl
 word_of-name (word.Text text.Execname) n = refl
@@ -67,8 +69,8 @@ same_word a b m n e =
 -- of one name the same is kept
 same_kept : (name : List ℕ) (a b : Option (List ℕ)) → IsKeptName name a → IsKeptName name b → a ≡ b
 same_kept name (Some x) (Some y) h k = ap Some (h.0 ∙ sym k.0)
-same_kept name (Some x) None h k = let few : length name ≤ short_text_max = h.1 in absurd (omega arith)
-same_kept name None (Some y) h k = let few : length name ≤ short_text_max = k.1 in absurd (omega arith)
+same_kept name (Some x) None h k = absurd (k h.1)
+same_kept name None (Some y) h k = absurd (h k.1)
 same_kept name None None h k = refl
 
 -- an unknown word, with what is kept of its name

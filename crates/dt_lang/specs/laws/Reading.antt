@@ -10,8 +10,9 @@ use Rattle.dt_lang.specs.declared.token.Token.TheVariants as token
 use Rattle.dt_lang.specs.declared.word.Action.{Action}
 use Rattle.dt_lang.specs.declared.word.Action.TheVariants as action
 use Rattle.dt_lang.specs.declared.word.Function.TheVariants as function
+use Rattle.dt_lang.specs.declared.word.Keyword.TheVariants as keyword
 use Rattle.dt_lang.specs.declared.word.Word.TheVariants as word
-use Rattle.dt_lang.specs.Expression.{ReadsExpr}
+use Rattle.dt_lang.specs.Expression.{ReadsExpr, ReadsLocal}
 use Rattle.dt_lang.specs.machine.ExpressionState as expression
 use Rattle.dt_lang.specs.Grammar.{a_description, another, always, guarded, keyed, ReadsConstant, ReadsStatement, Spot}
 use Rattle.dt_lang.specs.Grammar.{before_statement, after_statement, nothing, stated, separated, a_clause, ReadsClauses}
@@ -55,6 +56,14 @@ pub record FollowsTarget (tail ts : List Token) (cs : List ClauseForm) (c : Clau
   pub front : List Token
   pub split : ts ≡ front ++ tail
   pub stands : TargetStands front cs c name keys
+
+-- a thread-local variable, with these tokens after, after where a statement may begin
+pub record FollowsLocal (tail ts : List Token) (cs : List ClauseForm) (c : ClauseForm) (name : List ℕ) : Type 0 where
+  pub front : List Token
+  pub back : List Token
+  pub split : ts ≡ front ++ (back ++ tail)
+  pub stands : BodyStands before_statement front cs c
+  pub reads : ReadsLocal back name
 
 -- a statement but for its `)`
 pub record Closing (ts : List Token) (cs : List ClauseForm) (c : ClauseForm) (s : StatementForm) : Type 0 where
@@ -120,6 +129,12 @@ ReadInside cs c (place.applied name keys fn) ts =
 ReadInside cs c (place.bounding name keys f b) ts = Levels [] ts cs c name keys f b
 ReadInside cs c (place.negating name keys f b) ts = Levels (token.Sign sign.Minus ∷ []) ts cs c name keys f b
 ReadInside cs c (place.bounded name keys f b z) ts = Bounded ts cs c name keys f b z
+ReadInside cs c place.self_read ts = Follows (token.Word (word.Keyword keyword.ThreadLocal) ∷ []) ts cs c
+ReadInside cs c place.arrow_read ts =
+    Follows (token.Word (word.Keyword keyword.ThreadLocal) ∷ token.Sign sign.Arrow ∷ []) ts cs c
+ReadInside cs c (place.variable name) ts = FollowsLocal [] ts cs c name
+ReadInside cs c (place.drawing name) ts =
+    FollowsLocal (token.Sign sign.Equal ∷ token.Word (word.Keyword keyword.Speculation) ∷ []) ts cs c name
 
 -- the tokens that were read
 abbrev pub ReadAt : List ClauseForm → ClauseForm → PlaceForm → List Token → Type 0
@@ -153,6 +168,14 @@ split_four ts front mid back us vs e = rw e (simp append_assoc)
 pub split_levels : (ts front mid back tail first us vs : List Token) → ts ≡ front ++ (mid ++ (back ++ tail))
     → front ≡ first ++ us → ts ++ vs ≡ first ++ (us ++ (mid ++ ((back ++ tail) ++ vs)))
 split_levels ts front mid back tail first us vs e f = rw (e, f) (simp append_assoc)
+
+pub split_value : (ts front back first us : List Token) (t : Token) → ts ≡ front ++ back
+    → front ≡ first ++ (us ++ (t ∷ [])) → ts ≡ first ++ (us ++ (t ∷ back))
+split_value ts front back first us t e f = rw (e, f) (simp append_assoc)
+
+pub split_draw : (ts front back first us : List Token) (t u : Token) → ts ≡ front ++ back → back ≡ []
+    → front ≡ first ++ (us ++ (t ∷ [])) → ts ++ (u ∷ []) ≡ first ++ (us ++ (t ∷ u ∷ []))
+split_draw ts front back first us t u e f g = rw (e, f, g) (simp (append_assoc, append-nil))
 
 -- heads
 pub head_begins : (ts : List Token) (cs : List ClauseForm) (d : Description) → ReadsClauses ts cs

@@ -1,12 +1,16 @@
 -- What the first byte of a piece says.
-use Rattle.std.proofs.Common.{◌≡◌, ℕ, ◌<◌, Bool, true, false, cond, ◌||◌, eqb, refl, sym, arith, ◌≤◌, ◌≢◌, inl, inr, ap}
-use Rattle.std.proofs.Common.{◌∙◌}
+use Rattle.std.proofs.Common.{◌≡◌, ℕ, ◌<◌, Bool, true, false, cond, ◌||◌, eqb, List, refl, sym, arith, ◌≤◌, ◌≢◌, inl, inr, ap}
+use Rattle.std.proofs.Common.{◌∙◌, ◌⊎◌, ◌&&◌, not, length}
 use Rattle.std.proofs.lemmas.Bool.Decides.{nat_tests}
-use Rattle.std.proofs.lemmas.Bool.{cases_eq, false≢true}
+use Rattle.std.proofs.lemmas.Bool.{cases_eq, cases_lt, false≢true}
+use Rattle.std.proofs.lemmas.List.Sums.{AllPass-from_list_all, list_all-from_AllPass}
 use Rattle.std.specs.Char.{is_ascii_digit, digit_value}
-use Rattle.dt_names.specs.Name.{IsNameByte}
+use Rattle.std.specs.List.{All, AllPass, list_all}
+use Rattle.dt_names.specs.Limits.{name_max}
+use Rattle.dt_names.specs.Name.{IsNameByte, IsName}
 use Rattle.dt_lang.specs.Class.{is_word_byte, is_description_byte}
 use Rattle.dt_lang.specs.Lexeme.{IsDescriptionByte}
+use Rattle.dt_lang.specs.laws.Runs.{truth_of}
 use Rattle.dt_lang.specs.machine.Piece.{start_of}
 use Rattle.dt_lang.specs.declared.piece.Start.{Start}
 use Rattle.dt_lang.specs.declared.piece.Start.TheVariants as start
@@ -88,6 +92,41 @@ described_byte byte h = elim (cases_eq byte 58) [
     below : (byte : ℕ) → is_description_byte byte ≡ true → byte ≤ 126
     below byte h = grind (arith, nat_tests)
 
+-- a byte of a word is one of a name
+word_byte_named : (byte : ℕ) → is_word_byte byte ≡ true → IsNameByte byte
+word_byte_named byte h = record {
+  above_blanks = above byte h;
+  below_delete = below byte h;
+  no_colon = λ e. false≢true (ap is_word_byte (sym e) ∙ h);
+  no_comma = λ e. false≢true (ap is_word_byte (sym e) ∙ h);
+  no_slash = λ e. false≢true (ap is_word_byte (sym e) ∙ h);
+  no_open_brace = λ e. false≢true (ap is_word_byte (sym e) ∙ h);
+  no_close_brace = λ e. false≢true (ap is_word_byte (sym e) ∙ h);
+  no_quote = λ e. false≢true (ap is_word_byte (sym e) ∙ h);
+}
+  where
+    above : (byte : ℕ) → is_word_byte byte ≡ true → 33 ≤ byte
+    above byte h = grind (arith, nat_tests)
+
+    below : (byte : ℕ) → is_word_byte byte ≡ true → byte ≤ 126
+    below byte h = grind (arith, nat_tests)
+
+pub word_bytes_named : (bytes : List ℕ) → AllPass is_word_byte bytes → All IsNameByte bytes
+word_bytes_named bytes h = λ k d below. word_byte_named _ (h k d below)
+
+-- the bytes of names, by a test
+abbrev is_name : ℕ → Bool
+is_name byte = is_description_byte byte && not (eqb byte 58)
+
+is_name_named : (byte : ℕ) → is_name byte ≡ true → IsNameByte byte
+is_name_named byte h = elim (described_byte byte (described byte h)) [
+  | inl is ↦ is
+  | inr colon ↦ absurd (false≢true (ap is_name (sym colon) ∙ h))
+]
+  where
+    described : (byte : ℕ) → is_name byte ≡ true → is_description_byte byte ≡ true
+    described byte h = grind (arith, nat_tests)
+
 name_byte : (byte : ℕ) → IsNameByte byte → is_description_byte byte ≡ true
 name_byte byte h =
     let above = h.above_blanks in
@@ -102,6 +141,25 @@ name_byte byte h =
     passes : (byte : ℕ) → 33 ≤ byte → byte ≤ 126 → byte ≢ 44 → byte ≢ 47 → byte ≢ 123 → byte ≢ 125 → byte ≢ 34
         → is_description_byte byte ≡ true
     passes byte above below comma slash begun ended quote = grind (arith, nat_tests)
+
+named_is_name : (byte : ℕ) → IsNameByte byte → is_name byte ≡ true
+named_is_name byte h =
+    let described = name_byte byte h in
+    let colon = h.no_colon in
+    passes byte described colon
+  where
+    passes : (byte : ℕ) → is_description_byte byte ≡ true → byte ≢ 58 → is_name byte ≡ true
+    passes byte described colon = grind (arith, nat_tests)
+
+-- whether bytes are a name's
+pub name_or_not : (bytes : List ℕ) → IsName bytes ⊎ (IsName bytes → ⊥)
+name_or_not bytes = elim (truth_of (list_all is_name bytes)) [
+  | inl all ↦ elim (cases_lt name_max (length bytes)) [
+    | inl more ↦ inr (λ is. let few = is.short in omega arith)
+    | inr few ↦ inl (record { short = few; plain = λ k d below. is_name_named _ (AllPass-from_list_all is_name bytes all k d below) })
+  ]
+  | inr none ↦ inr (λ is. false≢true (sym none ∙ list_all-from_AllPass is_name bytes (λ k d below. named_is_name _ (is.plain k d below))))
+]
 
 pub byte_described : (byte : ℕ) → IsDescriptionByte byte → is_description_byte byte ≡ true
 byte_described byte (inl h) = name_byte byte h

@@ -2,16 +2,14 @@
 use Rattle.std.proofs.Common.{◌≡◌, ◌⊎◌, inl, inr, Bool, true, false, ◌&&◌, ◌||◌, List, [], ◌∷◌, ◌++◌, Option, Some}
 use Rattle.std.proofs.Common.{None, is_some, refl, sym, ap, ◌∙◌}
 use Rattle.std.specs.Prelude.{option_and_then}
-use Rattle.dt_expr.specs.declared.scene.NumberVariable.TheVariants as variable
-use Rattle.dt_expr.specs.declared.scene.TextVariable.TheVariants as text_variable
+use Rattle.dt_lang.specs.declared.token.Sign.TheVariants as sign
 use Rattle.dt_lang.specs.declared.token.Token.{Token}
 use Rattle.dt_lang.specs.declared.token.Token.TheVariants as token
-use Rattle.dt_lang.specs.declared.word.Word.TheVariants as word
 use Rattle.dt_lang.specs.Expression.{BeginsExpr}
 use Rattle.dt_lang.specs.machine.ExpressionState.{State, is_operand, start, step, run, wants, takes_number, takes_text}
 use Rattle.dt_lang.specs.Refused.{OperandStands, a_number, a_text, IsOperand, GoesOn, fits, taken}
 use Rattle.dt_lang.specs.machine.Cause.{is_one_more}
-use Rattle.dt_lang.specs.laws.ExpressionLaws.{complete, viable, number_goes_on, text_goes_on, wants_operand, run_beginning}
+use Rattle.dt_lang.specs.laws.ExpressionLaws.{complete, viable, bang_goes_on, string_goes_on, wants_operand, run_beginning}
 use Rattle.dt_lang.specs.laws.ClauseSound.{none_some, run_last}
 
 -- The tokens lead somewhere, and the last leads on from there.
@@ -70,22 +68,19 @@ wants_text : (s : State) → takes_text s ≡ true → wants s ≡ true
 wants_text s h = sym (wants_operand s) ∙ or_right (takes_number s) (takes_text s) h
 
 -- an operand stands there where a number or a text goes on
-pub wants_where_number : (s next : State) → step s (token.Word (word.Number variable.Pid)) ≡ Some next → wants s ≡ true
-wants_where_number s next h =
-    wants_number s (sym (number_goes_on s (token.Word (word.Number variable.Pid)) refl) ∙ ap is_some h)
+pub wants_where_number : (s next : State) → step s (token.Sign sign.Bang) ≡ Some next → wants s ≡ true
+wants_where_number s next h = wants_number s (sym (bang_goes_on s) ∙ ap is_some h)
 
-pub wants_where_text : (s next : State) → step s (token.Word (word.Text text_variable.Execname)) ≡ Some next
-    → wants s ≡ true
-wants_where_text s next h =
-    wants_text s (sym (text_goes_on s (token.Word (word.Text text_variable.Execname)) _ refl) ∙ ap is_some h)
+pub wants_where_text : (s next : State) → step s (token.String []) ≡ Some next → wants s ≡ true
+wants_where_text s next h = wants_text s (sym (string_goes_on s) ∙ ap is_some h)
 
 -- where an operand stands, a number or a text goes on
 pub operand_goes_on : (s : State) → wants s ≡ true
-    → ((next : State) × (step s (token.Word (word.Number variable.Pid)) ≡ Some next))
-    ⊎ ((next : State) × (step s (token.Word (word.Text text_variable.Execname)) ≡ Some next))
+    → ((next : State) × (step s (token.Sign sign.Bang) ≡ Some next))
+    ⊎ ((next : State) × (step s (token.String []) ≡ Some next))
 operand_goes_on s h = elim (one_of (takes_number s) (takes_text s) (wants_operand s ∙ h)) [
-  | inl k ↦ inl (some_state State _ (number_goes_on s (token.Word (word.Number variable.Pid)) refl ∙ k))
-  | inr k ↦ inr (some_state State _ (text_goes_on s (token.Word (word.Text text_variable.Execname)) _ refl ∙ k))
+  | inl k ↦ inl (some_state State _ (bang_goes_on s ∙ k))
+  | inr k ↦ inr (some_state State _ (string_goes_on s ∙ k))
 ]
 
 is_operand_true : (t : Token) → IsOperand t → is_operand t ≡ true

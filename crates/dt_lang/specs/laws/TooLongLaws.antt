@@ -1,21 +1,24 @@
 -- A token passes a limit exactly where the state of the reading says so.
 use Rattle.std.proofs.Common.{◌≡◌, ◌⊎◌, inl, inr, ℕ, ◌+◌, ◌≤◌, leb, eqb, Bool, true, false, cond, ◌&&◌, List, [], ◌∷◌, ◌++◌}
 use Rattle.std.proofs.Common.{length, Option, Some, None, refl, sym, ◌∙◌, subst, arith, leb-true, le-leb, eqb-true}
-use Rattle.std.proofs.Common.{append-nil}
+use Rattle.std.proofs.Common.{append-nil, append_assoc}
 use Rattle.dt_program.specs.declared.clause.TheConstants.{DESCRIPTIONS_MAX, STATEMENTS_MAX, KEYS_MAX}
 use Rattle.dt_program.specs.declared.program.TheConstants.{CLAUSES_MAX, TOKENS_MAX}
 use Rattle.dt_lang.specs.declared.token.Sign.TheVariants as sign
 use Rattle.dt_lang.specs.declared.token.Token.{Token}
 use Rattle.dt_lang.specs.declared.token.Token.TheVariants as token
+use Rattle.dt_lang.specs.declared.word.Word.TheVariants as word
 use Rattle.dt_lang.specs.machine.ExpressionState as expression
-use Rattle.dt_lang.specs.Grammar.{before_statement, after_statement, ReadsClauses}
+use Rattle.dt_lang.specs.machine.ExpressionState.{HandForm, arrow_read, is_long_word, is_long_name_at}
+use Rattle.dt_lang.specs.Grammar.{before_statement, after_statement, ReadsClauses, Begins}
 use Rattle.dt_program.specs.Clause.{ArgForm, ClauseForm}
-use Rattle.dt_lang.specs.Stand.{BodyStands, Slot, predicate, given, key, value, divides_in, SlotOpens}
+use Rattle.dt_lang.specs.Stand.{BodyStands, Slot, predicate, given, key, value, assignment, divides_in, SlotOpens}
 use Rattle.dt_lang.specs.Stand.{first_key, a_key}
-use Rattle.dt_lang.specs.Refused.{GoesOn, IsForStatement, IsTooLong, a_clause, a_description, a_statement, a_token}
+use Rattle.dt_lang.specs.Refused.{GoesOn, IsForStatement, IsTooLong, a_clause, a_description, a_statement, a_token, a_local_name}
 use Rattle.dt_lang.specs.Refused as refused
 use Rattle.dt_lang.specs.machine.ClauseState.{PlaceForm, outside, described, listed, body}
-use Rattle.dt_lang.specs.machine.ClauseState.{within}
+use Rattle.dt_lang.specs.machine.ClauseState.{within, inside, bounded, at_lower, at_upper, at_step, program_step_from}
+use Rattle.dt_lang.specs.machine.ClauseState as place
 use Rattle.dt_lang.specs.machine.ClauseState.{ProgramState, program_at, headed, program_step, program_run, program_start}
 use Rattle.dt_lang.specs.declared.fault.Limit.{Limit}
 use Rattle.dt_lang.specs.declared.fault.Limit.TheVariants as limits
@@ -24,7 +27,9 @@ use Rattle.dt_lang.specs.laws.Reading.{ListRead, Within, ReadAt}
 use Rattle.dt_lang.specs.laws.ClauseSound.{none_some, same_some}
 use Rattle.dt_lang.specs.laws.ClauseComplete.{run_on, run_step, run_within, clauses_lead, head_stands_lead}
 use Rattle.dt_lang.specs.laws.ClauseComplete.{body_stands_lead, slot_leads}
-use Rattle.dt_lang.specs.laws.ClauseLaws.{read}
+use Rattle.dt_lang.specs.laws.ClauseLaws.{read, viable, leads, leads_by, steps_to}
+use Rattle.dt_lang.specs.laws.Ends.{goes_within, arrow_leads}
+use Rattle.dt_lang.specs.laws.ExpressionSound.{Holds, run_reaches}
 use Rattle.dt_lang.specs.laws.TakesLaws.{both_left, both_right, goes_on_takes, takes_goes_on}
 
 is_for_statement_is : (t : Token) → is_for_statement t ≡ true → IsForStatement t
@@ -87,6 +92,7 @@ slot_too_long ts back cs c (key name keys) t h e k g =
 slot_too_long ts back cs c predicate t h e k g = cc
 slot_too_long ts back cs c (given a) t h e k g = cc
 slot_too_long ts back cs c (value name keys fn) t h e k g = cc
+slot_too_long ts back cs c (assignment name) t h e k g = cc
 
 -- the limit that is passed within a slot: of tokens, or of keys
 which_limit : (tokens keys : Bool) (limit : Limit)
@@ -96,18 +102,53 @@ which_limit true keys limit e = inl (refl, same_some e)
 which_limit false true limit e = inr (refl, same_some e)
 which_limit false false limit e = absurd (none_some e)
 
-taken_limit : (b : Bool) (o : Option Limit) (limit : Limit) → cond b o None ≡ Some limit
-    → (b ≡ true) × (o ≡ Some limit)
-taken_limit true o limit e = (refl, e)
-taken_limit false o limit e = absurd (none_some e)
+-- it is passed by one token more, or by a variable's name
+more_or_name : (more long : Bool) (o : Option Limit) (limit : Limit)
+    → cond more o (cond long (Some limits.LocalBytes) None) ≡ Some limit
+    → ((more ≡ true) × (o ≡ Some limit)) ⊎ ((long ≡ true) × (limits.LocalBytes ≡ limit))
+more_or_name true long o limit e = inl (refl, e)
+more_or_name false true o limit e = inr (refl, same_some e)
+more_or_name false false o limit e = absurd (none_some e)
+
+-- a variable's name
+abbrev long_name : Token
+long_name = token.Word (word.Unknown None)
+
+long_word_is : (t : Token) → is_long_word t ≡ true → t ≡ long_name
+long_word_is (token.Word (word.Unknown None)) h = refl
+long_word_is _ h = cc
+
+long_name_is : (hand : HandForm) (t : Token) → is_long_name_at hand t ≡ true → (hand ≡ arrow_read) × (t ≡ long_name)
+long_name_is arrow_read t h = (refl, long_word_is t h)
+long_name_is _ t h = cc
+
+name_too_long : (ts front : List Token) (t : Token) → ts ≡ front ++ (token.Sign sign.Arrow ∷ []) → Begins ts → t ≡ long_name
+    → IsTooLong ts t limits.LocalBytes
+name_too_long ts front t e b is =
+    subst (λ (x : Token). IsTooLong ts x limits.LocalBytes) (sym is)
+    (subst (λ (x : List Token). IsTooLong x long_name limits.LocalBytes) (sym e)
+    (a_local_name front (subst (λ (x : List Token). Begins x) e b)))
+
+arrow_last : (ts front back mid : List Token) (t u : Token) → ts ≡ front ++ back → back ≡ mid ++ (t ∷ u ∷ [])
+    → ts ≡ (front ++ (mid ++ (t ∷ []))) ++ (u ∷ [])
+arrow_last ts front back mid t u e f = rw (e, f) (simp append_assoc)
+
+within_name : (ts : List Token) (cs : List ClauseForm) (c : ClauseForm) (slot : Slot) (n : ℕ) (e : expression.State)
+    (t : Token) → Within ts cs c slot n e → Begins ts → is_long_name_at e.hand t ≡ true
+    → IsTooLong ts t limits.LocalBytes
+within_name ts cs c slot n e t h b k =
+    let is = long_name_is e.hand t k in
+    let there : Holds (divides_in slot) e.divides e.pending e.hand h.back = run_reaches (divides_in slot) e h.back h.runs in
+    let local : Holds (divides_in slot) e.divides e.pending arrow_read h.back =
+    subst (λ (x : HandForm). Holds (divides_in slot) e.divides e.pending x h.back) is.0 there in
+    name_too_long ts _ t (arrow_last ts h.front h.back local.front _ _ h.split local.tokens) b is.1
 
 within_too_long : (ts : List Token) (cs : List ClauseForm) (c : ClauseForm) (slot : Slot) (n : ℕ)
     (e : expression.State) (t : Token) (limit : Limit) → Within ts cs c slot n e
-    → too_long_at cs c (within slot n e) t ≡ Some limit → IsTooLong ts t limit
-within_too_long ts cs c slot n e t limit h k =
-    let m = taken_limit (is_one_more e t) (limit_within slot n) limit k in
-    let g = takes_goes_on (divides_in slot) h.back e t h.runs m.0 in
-    elim (which_limit (leb TOKENS_MAX n) (eqb n 0 && keys_full slot) limit m.1) [
+    → is_one_more e t ≡ true → limit_within slot n ≡ Some limit → IsTooLong ts t limit
+within_too_long ts cs c slot n e t limit h k m =
+    let g = takes_goes_on (divides_in slot) h.back e t h.runs k in
+    elim (which_limit (leb TOKENS_MAX n) (eqb n 0 && keys_full slot) limit m) [
       | inl i ↦ let most : TOKENS_MAX ≤ length h.back = rw h.counts at (leb-true TOKENS_MAX n i.0) in
           subst (IsTooLong ts t) i.1 (rw h.split (a_token slot h.front h.back cs c t h.opens most g))
       | inr i ↦ let z = no_tokens h.back n h.counts (both_left _ _ i.0) in
@@ -115,14 +156,32 @@ within_too_long ts cs c slot n e t limit h k =
           (rw h.split (slot_too_long h.front h.back cs c slot t h.opens z (both_right (eqb n 0) _ i.0) g))
     ]
 
+slot_limit : (ts : List Token) (cs : List ClauseForm) (c : ClauseForm) (slot : Slot) (n : ℕ)
+    (e : expression.State) (t : Token) (limit : Limit) → Within ts cs c slot n e → Begins ts
+    → too_long_at cs c (within slot n e) t ≡ Some limit → IsTooLong ts t limit
+slot_limit ts cs c slot n e t limit h b k =
+    elim (more_or_name (is_one_more e t) (is_long_name_at e.hand t) (limit_within slot n) limit k) [
+      | inl m ↦ within_too_long ts cs c slot n e t limit h m.0 m.1
+      | inr m ↦ subst (IsTooLong ts t) m.1 (within_name ts cs c slot n e t h b m.0)
+    ]
+
+arrow_limit : (ts : List Token) (cs : List ClauseForm) (c : ClauseForm) (t : Token) (limit : Limit)
+    → ReadAt cs c (inside place.arrow_read) ts → Begins ts → too_long_at cs c (inside place.arrow_read) t ≡ Some limit
+    → IsTooLong ts t limit
+arrow_limit ts cs c t limit h b k =
+    let m = met (is_long_word t) limits.LocalBytes limit k in
+    subst (IsTooLong ts t) m.1
+    (name_too_long ts _ t (arrow_last ts h.front _ [] _ _ h.split refl) b (long_word_is t m.0))
+
 read_too_long : (ts : List Token) (cs : List ClauseForm) (c : ClauseForm) (p : PlaceForm) (t : Token) (limit : Limit)
-    → ReadAt cs c p ts → too_long_at cs c p t ≡ Some limit → IsTooLong ts t limit
-read_too_long ts cs c outside t limit h e = outside_too_long ts cs c t limit h e
-read_too_long ts cs c listed t limit h e = listed_too_long ts cs c t limit h e
-read_too_long ts cs c (body before_statement) t limit h e = before_statement_too_long ts cs c t limit h e
-read_too_long ts cs c (within slot n x) t limit h e = within_too_long ts cs c slot n x t limit h e
-read_too_long ts cs c (body after_statement) t limit h e = absurd (none_some e)
-read_too_long ts cs c _ t limit h e = absurd (none_some e)
+    → ReadAt cs c p ts → Begins ts → too_long_at cs c p t ≡ Some limit → IsTooLong ts t limit
+read_too_long ts cs c outside t limit h b e = outside_too_long ts cs c t limit h e
+read_too_long ts cs c listed t limit h b e = listed_too_long ts cs c t limit h e
+read_too_long ts cs c (body before_statement) t limit h b e = before_statement_too_long ts cs c t limit h e
+read_too_long ts cs c (inside place.arrow_read) t limit h b e = arrow_limit ts cs c t limit h b e
+read_too_long ts cs c (within slot n x) t limit h b e = slot_limit ts cs c slot n x t limit h b e
+read_too_long ts cs c (body after_statement) t limit h b e = absurd (none_some e)
+read_too_long ts cs c _ t limit h b e = absurd (none_some e)
 
 -- the state that the tokens lead to, and the limit that the token passes there
 pub record TooLongThere (ts : List Token) (t : Token) (limit : Limit) : Type 0 where
@@ -143,6 +202,36 @@ takes_first t g =
     let same : expression.start true ≡ k.at = same_some k.runs in
     rw (sym same) at k.takes_it
 
+-- a variable's name may be too long after `->`
+abbrev SaysNameLong : ProgramState → Type 0
+SaysNameLong s = too_long_at s.clauses s.clause s.place long_name ≡ Some limits.LocalBytes
+
+arrow_within : (cs : List ClauseForm) (c : ClauseForm) (slot : Slot) (n : ℕ) (divides : Bool)
+    (pending : List expression.PendingForm)
+    → SaysNameLong (program_at cs c (within slot n (expression.state divides pending arrow_read)))
+unfolding expression.step
+arrow_within cs c slot n divides pending = refl
+
+arrow_says : (cs : List ClauseForm) (c : ClauseForm) (p : PlaceForm) (next : ProgramState)
+    → program_step_from cs c p (token.Sign sign.Arrow) ≡ Some next → SaysNameLong next
+arrow_says cs c (inside place.self_read) next h = subst (λ (x : ProgramState). SaysNameLong x) (same_some h) refl
+arrow_says cs c (within slot n e) next h =
+    let g = goes_within cs c slot n e (token.Sign sign.Arrow) next refl refl h in
+    let m = arrow_leads e g.at g.steps in
+    subst (λ (x : ProgramState). SaysNameLong x) g.is
+    (subst (λ (x : expression.State). SaysNameLong (program_at cs c (within slot (n + 1) x))) m
+    (arrow_within cs c slot (n + 1) e.divides e.pending))
+arrow_says cs c (inside (bounded name keys f at_lower z)) next h = absurd (none_some h)
+arrow_says cs c (inside (bounded name keys f (at_upper lower) z)) next h = absurd (none_some h)
+arrow_says cs c (inside (bounded name keys f (at_step lower upper) z)) next h = absurd (none_some h)
+arrow_says cs c (body before_statement) next h = absurd (none_some h)
+arrow_says cs c (body after_statement) next h = absurd (none_some h)
+arrow_says cs c _ next h = absurd (none_some h)
+
+arrow_says_at : (s next : ProgramState) → program_step s (token.Sign sign.Arrow) ≡ Some next → SaysNameLong next
+unfolding program_step
+arrow_says_at s next h = arrow_says s.clauses s.clause s.place next h
+
 too_long_there : (ts : List Token) (t : Token) (limit : Limit) → IsTooLong ts t limit → TooLongThere ts t limit
 unfolding program_run
 too_long_there _ _ _ (a_clause ts cs d r n) =
@@ -154,7 +243,7 @@ too_long_there _ _ _ (a_description ts cs ds d r n) = record {
 }
 too_long_there _ _ _ (a_statement ts cs c t r n k) = record {
   at = _;
-  runs = body_stands_lead before_statement ts cs c r;
+  runs = body_stands_lead ts cs c r;
   says = rw (le-leb STATEMENTS_MAX (length c.statements) n, is_for_statement_true t k) refl;
 }
 too_long_there _ _ _ (refused.a_key ts cs c name keys t r n g) = record {
@@ -167,10 +256,15 @@ too_long_there _ _ _ (a_token slot ts us cs c t r n g) =
     let w = run_within cs c slot us 0 (expression.start (divides_in slot)) k.at k.runs in
     let m : leb TOKENS_MAX (0 + length us) ≡ true = le-leb TOKENS_MAX (0 + length us) (omega arith) in
     record { at = _; runs = run_on _ _ _ ts us (slot_leads slot ts cs c r) w; says = rw (k.takes_it, m) refl }
+too_long_there _ _ _ (a_local_name ts b) =
+    let l = leads (ts ++ (token.Sign sign.Arrow ∷ [])) b in
+    let k = leads_by ts (token.Sign sign.Arrow ∷ []) l.at l.runs in
+    let s = steps_to k.at l.at (token.Sign sign.Arrow) k.second in
+    record { at = l.at; runs = l.runs; says = arrow_says_at k.at l.at s }
 
 module _ (ts : List Token) (t : Token) (s : ProgramState) (h : program_run program_start ts ≡ Some s) where
   pub too_long_is : (limit : Limit) → too_long_at s.clauses s.clause s.place t ≡ Some limit → IsTooLong ts t limit
-  too_long_is limit e = read_too_long ts s.clauses s.clause s.place t limit (read ts s h) e
+  too_long_is limit e = read_too_long ts s.clauses s.clause s.place t limit (read ts s h) (viable ts s h) e
 
   pub too_long_true : (limit : Limit) → IsTooLong ts t limit → too_long_at s.clauses s.clause s.place t ≡ Some limit
   too_long_true limit k =

@@ -1,11 +1,11 @@
 -- A program that was read lies within the bounds of what can be written.
 use Rattle.std.proofs.Common.{◌≡◌, ◌≢◌, ℕ, zero, suc, ◌<◌, ◌≤◌, true, List, [], ◌∷◌, ◌++◌, length, Result, Ok}
-use Rattle.std.proofs.Common.{Option, Some, None, IfSome, ℤ, refl, sym, ap, ◌∙◌, subst, ⊎_elim, ◌⊎◌, inl, inr, arith, lit<}
+use Rattle.std.proofs.Common.{Option, Some, None, IfSome, ℤ, pos, refl, sym, ap, ◌∙◌, subst, ⊎_elim, ◌⊎◌, inl, inr, arith, lit<}
 use Rattle.std.proofs.Common.{length-append, append_assoc, append-nil}
 use Rattle.std.specs.List.{AllByRecursion}
 use Rattle.dt_names.specs.Limits.{short_text_max}
-use Rattle.dt_expr.specs.Form.{Form}
-use Rattle.dt_expr.specs.declared.scene.NumberVariable.TheVariants as variable
+use Rattle.dt_expr.specs.Form.{Form, Num}
+use Rattle.dt_expr.specs.declared.operators.UnaryOp.TheVariants as unary
 use Rattle.dt_expr.specs.declared.text.Text.{Text}
 use Rattle.dt_program.specs.declared.description.Description.{Description}
 use Rattle.dt_aggfn.specs.Bounds.{AreBounds}
@@ -23,15 +23,16 @@ use Rattle.dt_lang.specs.declared.word.Action.{Action}
 use Rattle.dt_lang.specs.declared.word.Action.TheVariants as action
 use Rattle.dt_lang.specs.declared.word.Function.{Function}
 use Rattle.dt_lang.specs.declared.word.Function.TheVariants as function
+use Rattle.dt_lang.specs.declared.word.Keyword.TheVariants as keyword
 use Rattle.dt_lang.specs.declared.word.Word.TheVariants as word
 use Rattle.dt_program.specs.Bounds.{bounds_fault}
 use Rattle.dt_program.specs.laws.BoundsLaws.{faultless_bounds}
 use Rattle.dt_program.specs.declared.clause.BoundsFault.{BoundsFault}
 use Rattle.dt_program.specs.declared.description.DescriptionFault.{DescriptionFault}
-use Rattle.dt_lang.specs.Expression.{ReadsExpr, a_variable, ReadsArgument, a_text, an_expression, OPERAND, text_token}
+use Rattle.dt_lang.specs.Expression.{ReadsExpr, ReadsLocal, a_local, a_number, prefixed, ReadsArgument, a_text, an_expression, OPERAND, text_token}
 use Rattle.dt_lang.specs.Grammar.{ReadsHead, ReadsOpening, always, ReadsKeys, ReadsTarget, bare, keyed, ReadsBounds}
 use Rattle.dt_lang.specs.Grammar.{by_one, stepped, call_of, ReadsCall, counting, of_one, in_levels, statement_of, TakesNumber, ReadsStatement}
-use Rattle.dt_lang.specs.Grammar.{of_argument, of_stack, of_ustack, aggregating, Spot, before_statement, ReadsBody, stated, separated}
+use Rattle.dt_lang.specs.Grammar.{of_argument, of_stack, of_ustack, aggregating, assigning, drawing, Spot, before_statement, ReadsBody, stated, separated}
 use Rattle.dt_lang.specs.Grammar.{ReadsClause, ReadsClauses}
 use Rattle.dt_lang.specs.Grammar as grammar
 use Rattle.dt_lang.specs.Reads.{IsProgram}
@@ -39,12 +40,12 @@ use Rattle.dt_lang.specs.Refused.{because, IsTooLong, IsForStatement, GoesOn, fi
 use Rattle.dt_lang.specs.Refused.{NoneRefused}
 use Rattle.dt_lang.specs.Refused as refused
 use Rattle.dt_lang.specs.Stand.{BodyStands, KeysStand, TargetStands, Slot, predicate, given, key, value}
-use Rattle.dt_lang.specs.Stand.{divides_in, SlotOpens, a_predicate, an_argument, first_key, a_value}
+use Rattle.dt_lang.specs.Stand.{assignment, a_variable, divides_in, SlotOpens, a_predicate, an_argument, first_key, a_value}
 use Rattle.dt_lang.specs.Stand as stand
 use Rattle.dt_lang.specs.laws.ClauseSound.{same_some}
 use Rattle.dt_lang.specs.laws.ExpressionSound.{loosen}
 use Rattle.dt_lang.specs.laws.WrittenTokens.{IsWrittenToken, AreWritten, front_all, back_all, joined_all, tokens_written}
-use Rattle.dt_lang.specs.laws.WrittenTokens.{text_written, parts_written, parts_few, expression_begins, constant_written}
+use Rattle.dt_lang.specs.laws.WrittenTokens.{local_written, text_written, parts_written, parts_few, expression_begins, constant_written}
 
 -- less, or not
 below_or : (n m : ℕ) → (n < m) ⊎ (m ≤ n)
@@ -145,9 +146,10 @@ module _ (tokens : List Token) (unrefused : NoneRefused tokens) (each : AreWritt
 
   an_operand : OperandStands true []
   an_operand = refused.a_number (record {
-    more = [];
+    more = token.Number (pos 0) ∷ [];
     form = _;
-    reads = loosen 0 OPERAND (a_variable true variable.Pid) (omega arith) (omega arith);
+    reads = loosen 0 OPERAND (prefixed true sign.Bang unary.Not _ (Num (pos 0)) refl (a_number true (pos 0))) (omega arith)
+        (omega arith);
   })
 
   argument_begins : (us : List Token) (a : ArgForm) → ReadsArgument us a
@@ -345,11 +347,25 @@ module _ (tokens : List Token) (unrefused : NoneRefused tokens) (each : AreWritt
             (record { front = front; back = ts; split = refl; stands = stands; reads = target })
             us call (second front ts (token.Sign sign.Equal ∷ us) h) calls;
       }
+  statement_at cs c front _ _ stands h (assigning ts us name f variable reads) =
+      let opening = ts ++ (token.Sign sign.Equal ∷ []) in
+      let behind = second front opening us (subst (At tokens front) (sym (append_assoc ts (token.Sign sign.Equal ∷ []) us)) h) in
+      record {
+        short = local_written variable (written_at front ts (first front ts (token.Sign sign.Equal ∷ us) h));
+        value_written = expression_at (assignment name) (front ++ opening) us cs c f
+            (a_variable front ts cs c name stands variable) behind reads;
+      }
+  statement_at cs c front _ _ stands h (drawing ts name variable) =
+      local_written variable (written_at front ts (first front ts _ h))
 
   target_begins : (ts us : List Token) (name : List ℕ) (keys : List ArgForm) → ReadsTarget ts name keys
       → (t : Token) × (rest : List Token) × (ts ++ us ≡ t ∷ rest) × IsForStatement t
   target_begins _ us _ _ (bare name) = (token.Aggregation name, us, refl, tt)
   target_begins _ us _ _ (keyed name ts keys reads) = (token.Aggregation name, _, refl, tt)
+
+  local_begins : (ts us : List Token) (name : List ℕ) → ReadsLocal ts name
+      → (t : Token) × (rest : List Token) × (ts ++ us ≡ t ∷ rest) × IsForStatement t
+  local_begins _ us _ (a_local w name e) = (token.Word (word.Keyword keyword.ThreadLocal), _, refl, tt)
 
   statement_begins : (us : List Token) (s : StatementForm) → ReadsStatement us s
       → (t : Token) × (rest : List Token) × (us ≡ t ∷ rest) × IsForStatement t
@@ -358,6 +374,8 @@ module _ (tokens : List Token) (unrefused : NoneRefused tokens) (each : AreWritt
   statement_begins _ _ (of_ustack n counted) = (token.Word (word.Action action.Ustack), _, refl, tt)
   statement_begins _ _ (aggregating ts us name keys call target calls) =
       target_begins ts (token.Sign sign.Equal ∷ us) name keys target
+  statement_begins _ _ (assigning ts us name f variable reads) = local_begins ts _ name variable
+  statement_begins _ _ (drawing ts name variable) = local_begins ts _ name variable
 
   -- bodies and heads, in a clause after whole ones
   abbrev clause_of : List DescForm → Option Form → List StatementForm → ClauseForm

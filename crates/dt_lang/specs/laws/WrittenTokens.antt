@@ -4,7 +4,7 @@ use Rattle.std.proofs.Common.{⊎_elim, ℤ, pos, neg_ℤ, FitsSigned, refl, sym
 use Rattle.std.proofs.lemmas.Int.{SFits-int_wrap}
 use Rattle.std.specs.Int.{w64}
 use Rattle.std.specs.List.{AllByRecursion}
-use Rattle.dt_names.specs.Limits.{short_text_max}
+use Rattle.dt_names.specs.Limits.{name_max, short_text_max}
 use Rattle.dt_expr.specs.Form.{Form}
 use Rattle.dt_expr.specs.declared.text.Text.{Text}
 use Rattle.dt_expr.specs.declared.text.Text.TheVariants as operand
@@ -17,15 +17,23 @@ use Rattle.dt_lang.specs.declared.piece.Piece.TheVariants as piece
 use Rattle.dt_lang.specs.declared.token.Sign.TheVariants as sign
 use Rattle.dt_lang.specs.declared.token.Token.{Token}
 use Rattle.dt_lang.specs.declared.token.Token.TheVariants as token
+use Rattle.dt_lang.specs.declared.word.Word.{Word}
 use Rattle.dt_lang.specs.declared.word.Word.TheVariants as word
-use Rattle.dt_lang.specs.Expression.{ReadsExpr, a_number, a_variable, prefixed, grouped, compared, looser, joined}
+use Rattle.dt_lang.specs.Word.{word_bytes}
+use Rattle.dt_lang.specs.laws.Words.{name_short}
+use Rattle.dt_lang.specs.Expression.{ReadsExpr, ReadsLocal, a_number, a_variable, a_local, thread_local, prefixed, grouped, compared, looser, joined}
 use Rattle.dt_lang.specs.Expression.{text_token}
 use Rattle.dt_lang.specs.Grammar.{ReadsConstant, plain, negative}
 use Rattle.dt_lang.specs.Lexeme.{IsBodyToken, IsHeadToken, IsPiece, Stands, placed}
 use Rattle.dt_lang.specs.Reads.{TokensTo, none, another}
 
+-- a variable's name is short
+abbrev pub IsShortWord : Word → Type 0
+IsShortWord w = (name : List ℕ) → word_bytes w ≡ Some name → length name ≤ name_max
+
 -- a number of a token has 64 bits with a sign, and its bytes are few
 abbrev pub IsWrittenToken : Token → Type 0
+IsWrittenToken (token.Word w) = IsShortWord w
 IsWrittenToken (token.Number z) = FitsSigned w64 z
 IsWrittenToken (token.String bytes) = length bytes ≤ short_text_max
 IsWrittenToken (token.Aggregation name) = length name ≤ short_text_max
@@ -50,7 +58,7 @@ joined_all P (x ∷ xs) ys h k = (h.0, joined_all P xs ys h.1 k)
 
 -- tokens
 body_token : (bytes : List ℕ) (t : Token) → IsBodyToken bytes t → IsWrittenToken t
-body_token bytes (token.Word w) h = tt
+body_token bytes (token.Word w) h = λ name e. name_short w bytes name h.1 e
 body_token bytes (token.Number z) h = subst (λ x. FitsSigned w64 x) (sym h.2) (SFits-int_wrap w64 (pos h.0))
 body_token bytes (token.String t) h = h.2
 body_token bytes (token.Aggregation name) h = h.2
@@ -60,7 +68,7 @@ body_token bytes (token.Description d) h = tt
 head_token : (bytes : List ℕ) (t : Token) → IsHeadToken bytes t → IsWrittenToken t
 head_token bytes (token.Description d) h = tt
 head_token bytes (token.Sign s) h = tt
-head_token bytes (token.Word w) h = tt
+head_token bytes (token.Word w) h = absurd h
 head_token bytes (token.Number z) h = absurd h
 head_token bytes (token.String t) h = absurd h
 head_token bytes (token.Aggregation name) h = absurd h
@@ -101,11 +109,22 @@ text_written (token.Word (word.Text variable)) a e h =
     let same : operand.Variable variable ≡ a = cc in subst IsWrittenText same tt
 text_written _ a e h = cc
 
+-- a thread-local variable
+pub local_written : {ts : List Token} {name : List ℕ} → ReadsLocal ts name → AreWritten ts → length name ≤ name_max
+local_written (a_local w name e) h = h.1.1.0 name e
+
+pub local_long : {ts : List Token} {name : List ℕ} → ReadsLocal ts name → 3 ≤ length ts
+local_long (a_local w name e) = omega arith
+
+local_begins : {ts : List Token} {name : List ℕ} → ReadsLocal ts name → (t : Token) × (us : List Token) × (ts ≡ t ∷ us)
+local_begins (a_local w name e) = (_, _, refl)
+
 -- an expression
 pub parts_written : {divides : Bool} {level : ℕ} {ts : List Token} {f : Form} → ReadsExpr divides level ts f
     → AreWritten ts → HasWrittenParts f
 parts_written (a_number divides z) h = h.0
 parts_written (a_variable divides v) h = tt
+parts_written (thread_local divides ts name r) h = local_written r h
 parts_written (prefixed divides s op ts f p e) h = parts_written e h.1
 parts_written (grouped divides ts f e) h = parts_written e (front_all IsWrittenToken ts _ h.1)
 parts_written (compared divides s op left right a b p q r) h =
@@ -118,6 +137,7 @@ pub parts_few : {divides : Bool} {level : ℕ} {ts : List Token} {f : Form} → 
     → parts_count f ≤ length ts
 parts_few (a_number divides z) = omega arith
 parts_few (a_variable divides v) = omega arith
+parts_few (thread_local divides ts name r) = local_long r
 parts_few (prefixed divides s op ts f p e) = let few = parts_few e in omega arith
 parts_few (grouped divides ts f e) =
     let few = parts_few e in
@@ -136,6 +156,7 @@ pub expression_begins : {divides : Bool} {level : ℕ} {ts : List Token} {f : Fo
     → (t : Token) × (us : List Token) × (ts ≡ t ∷ us)
 expression_begins (a_number divides z) = (token.Number z, [], refl)
 expression_begins (a_variable divides v) = (token.Word (word.Number v), [], refl)
+expression_begins (thread_local divides ts name r) = local_begins r
 expression_begins (prefixed divides s op ts f p e) = (token.Sign s, ts, refl)
 expression_begins (grouped divides ts f e) = (_, _, refl)
 expression_begins (compared divides s op left right a b p q r) = (left, token.Sign s ∷ right ∷ [], refl)

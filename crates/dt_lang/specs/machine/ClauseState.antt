@@ -1,7 +1,7 @@
 -- Private to the proofs.
 -- Programs read token by token: what was read, and what stands next. The laws in `specs/laws/ClauseLaws.antt` say that this
 -- reads exactly what `ReadsProgram` says.
-use Rattle.std.specs.Prelude.{ℕ, ◌+◌, leb, Bool, true, false, ◌&&◌, if◌then◌else◌, List, [], ◌∷◌, ◌++◌, Option, Some, None, option_and_then, ℤ, pos, neg_ℤ, Ok}
+use Rattle.std.specs.Prelude.{ℕ, ◌+◌, ◌==◌, leb, Bool, true, false, ◌&&◌, if◌then◌else◌, List, [], ◌∷◌, ◌++◌, Option, Some, None, option_and_then, option_map, ℤ, pos, neg_ℤ, Ok}
 use Rattle.dt_expr.specs.Form.{Form}
 use Rattle.dt_program.specs.Description.{DescForm, form_of_description}
 use Rattle.dt_program.specs.Limits.{frames_max}
@@ -12,10 +12,11 @@ use Rattle.dt_lang.specs.declared.word.Action.{Action}
 use Rattle.dt_lang.specs.declared.word.Action.TheVariants as action
 use Rattle.dt_lang.specs.declared.word.Function.{Function}
 use Rattle.dt_lang.specs.declared.word.Function.TheVariants as function
+use Rattle.dt_lang.specs.declared.word.Keyword.TheVariants as keyword
 use Rattle.dt_lang.specs.declared.word.Word.TheVariants as word
-use Rattle.dt_program.specs.Clause.{ArgForm, number, count, lquantize, StatementForm, stack, ustack, aggregate, ClauseForm}
+use Rattle.dt_program.specs.Clause.{ArgForm, number, count, lquantize, StatementForm, stack, ustack, aggregate, assign, draw, ClauseForm}
 use Rattle.dt_lang.specs.Grammar.{call_of, statement_of, Spot, before_statement, after_statement}
-use Rattle.dt_lang.specs.Stand.{Slot, predicate, given, key, value, divides_in}
+use Rattle.dt_lang.specs.Stand.{Slot, predicate, given, key, value, assignment, divides_in}
 use Rattle.dt_lang.specs.machine.ExpressionState as expression
 
 -- which bound of an `lquantize` is read, and those before it
@@ -39,6 +40,11 @@ pub data InsideForm : Type 0 where
   bounding : (name : List ℕ) (keys : List ArgForm) → Form → BoundForm → InsideForm
   negating : (name : List ℕ) (keys : List ArgForm) → Form → BoundForm → InsideForm
   bounded : (name : List ℕ) (keys : List ArgForm) → Form → BoundForm → ℤ → InsideForm
+  -- `self`; its `->`; a thread-local variable; the `speculation` that it is given
+  self_read : InsideForm
+  arrow_read : InsideForm
+  variable : (name : List ℕ) → InsideForm
+  drawing : (name : List ℕ) → InsideForm
 
 -- what the last token was, and so what stands next
 pub data PlaceForm : Type 0 where
@@ -113,6 +119,7 @@ abbrev pub from_before_statement : List ClauseForm → ClauseForm → Token → 
 from_before_statement cs c (token.Sign sign.Semicolon) = Some (program_at cs c (body before_statement))
 from_before_statement cs c (token.Sign sign.CloseBrace) = Some (program_at (cs ++ (c ∷ [])) (headed []) outside)
 from_before_statement cs c (token.Word (word.Action a)) = Some (program_at cs c (inside (called a)))
+from_before_statement cs c (token.Word (word.Keyword keyword.ThreadLocal)) = Some (program_at cs c (inside self_read))
 from_before_statement cs c (token.Aggregation name) = Some (program_at cs c (inside (named name)))
 from_before_statement cs c _ = None
 
@@ -194,18 +201,43 @@ shut_value cs c name keys fn (number f) (token.Sign sign.CloseParen) =
 shut_value cs c name keys fn (number f) (token.Sign sign.Comma) = shut_levels cs c name keys fn f
 shut_value cs c name keys fn _ _ = None
 
+-- what ends a variable's value: it is a whole statement
+abbrev pub shut_assignment : List ClauseForm → ClauseForm → List ℕ → ArgForm → Token → Option ProgramState
+shut_assignment cs c name (number f) t = from_after_statement cs (with_statement c (assign name f)) t
+shut_assignment cs c name _ t = None
+
 -- what ends what is read for a slot
 abbrev pub shut : List ClauseForm → ClauseForm → Slot → Token → ArgForm → Option ProgramState
 shut cs c predicate t a = shut_predicate cs c a t
 shut cs c (given action) t a = shut_given cs c action a t
 shut cs c (key name keys) t a = shut_key cs c name keys a t
 shut cs c (value name keys fn) t a = shut_value cs c name keys fn a t
+shut cs c (assignment name) t a = shut_assignment cs c name a t
+
+abbrev pub is_speculation : Token → Bool
+is_speculation (token.Word (word.Keyword keyword.Speculation)) = true
+is_speculation _ = false
+
+-- whether a token is `speculation`, right after the `=` of a variable
+abbrev pub draws : Slot → ℕ → Token → Bool
+draws (assignment name) n t = (n == 0) && is_speculation t
+draws _ n t = false
+
+abbrev pub begin_draw : List ClauseForm → ClauseForm → Slot → ℕ → Token → Option ProgramState
+begin_draw cs c (assignment name) n t =
+    if (n == 0) && is_speculation t then Some (program_at cs c (inside (drawing name))) else None
+begin_draw cs c _ n t = None
+
+-- a token doesn't go on with what was read for a slot: it ends what is whole, or is `speculation`
+abbrev pub end_within : List ClauseForm → ClauseForm → Slot → ℕ → Token → Option ArgForm → Option ProgramState
+end_within cs c slot n t (Some a) = shut cs c slot t a
+end_within cs c slot n t None = begin_draw cs c slot n t
 
 -- a token goes on with what is read for a slot, or ends it
 abbrev pub go_on : List ClauseForm → ClauseForm → Slot → ℕ → expression.State → Token → Option expression.State
     → Option ProgramState
 go_on cs c slot n e t (Some next) = Some (program_at cs c (within slot (n + 1) next))
-go_on cs c slot n e t None = option_and_then (shut cs c slot t) (expression.done e)
+go_on cs c slot n e t None = end_within cs c slot n t (expression.done e)
 
 abbrev pub from_within : List ClauseForm → ClauseForm → Slot → ℕ → expression.State → Token → Option ProgramState
 from_within cs c slot n e t = go_on cs c slot n e t (expression.step e t)
@@ -232,6 +264,21 @@ from_bounded cs c name keys f (at_step lower upper) z (token.Sign sign.ClosePare
     Some (ended cs c (aggregate name keys (lquantize f lower upper z)))
 from_bounded cs c name keys f _ z _ = None
 
+abbrev pub from_self : List ClauseForm → ClauseForm → Token → Option ProgramState
+from_self cs c (token.Sign sign.Arrow) = Some (program_at cs c (inside arrow_read))
+from_self cs c _ = None
+
+abbrev pub from_arrow : List ClauseForm → ClauseForm → Token → Option ProgramState
+from_arrow cs c t = option_map (λ name. program_at cs c (inside (variable name))) (expression.name_of_token t)
+
+abbrev pub from_variable : List ClauseForm → ClauseForm → List ℕ → Token → Option ProgramState
+from_variable cs c name (token.Sign sign.Equal) = Some (entered cs c (assignment name))
+from_variable cs c name _ = None
+
+abbrev pub from_drawing : List ClauseForm → ClauseForm → List ℕ → Token → Option ProgramState
+from_drawing cs c name (token.Sign sign.OpenParen) = Some (program_at cs c (inside (closing (draw name))))
+from_drawing cs c name _ = None
+
 -- what a token in a statement leads to
 abbrev pub inside_step_from : List ClauseForm → ClauseForm → InsideForm → Token → Option ProgramState
 inside_step_from cs c (called a) t = from_called cs c a t
@@ -244,6 +291,10 @@ inside_step_from cs c (applied name keys fn) t = from_applied cs c name keys fn 
 inside_step_from cs c (bounding name keys f b) t = from_bounding cs c name keys f b t
 inside_step_from cs c (negating name keys f b) t = from_negating cs c name keys f b t
 inside_step_from cs c (bounded name keys f b z) t = from_bounded cs c name keys f b z t
+inside_step_from cs c self_read t = from_self cs c t
+inside_step_from cs c arrow_read t = from_arrow cs c t
+inside_step_from cs c (variable name) t = from_variable cs c name t
+inside_step_from cs c (drawing name) t = from_drawing cs c name t
 
 abbrev pub program_step_from : List ClauseForm → ClauseForm → PlaceForm → Token → Option ProgramState
 program_step_from cs c outside t = from_outside cs t

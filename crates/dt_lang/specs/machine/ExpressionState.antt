@@ -3,7 +3,7 @@
 -- `specs/laws/ExpressionLaws.antt` say that this reads exactly what `ReadsExpr` and `ReadsArgument` say.
 use Rattle.std.specs.Prelude.{◌≡◌, ℕ, ◌+◌, leb, Bool, true, false, if◌then◌else◌, List, [], ◌∷◌, Option, Some, None, is_none, option_map, option_and_then}
 use Rattle.std.specs.List.{list_any}
-use Rattle.dt_expr.specs.Form.{Form, Num, Named, Prefixed, Joined, Compared}
+use Rattle.dt_expr.specs.Form.{Form, Num, Named, Local, Prefixed, Joined, Compared}
 use Rattle.dt_expr.specs.declared.operators.BinaryOp.{BinaryOp}
 use Rattle.dt_expr.specs.declared.operators.BinaryOp.TheVariants as binary
 use Rattle.dt_expr.specs.declared.operators.UnaryOp.{UnaryOp}
@@ -14,9 +14,11 @@ use Rattle.dt_lang.specs.declared.token.Sign.{Sign}
 use Rattle.dt_lang.specs.declared.token.Sign.TheVariants as sign
 use Rattle.dt_lang.specs.declared.token.Token.{Token}
 use Rattle.dt_lang.specs.declared.token.Token.TheVariants as token
+use Rattle.dt_lang.specs.declared.word.Keyword.TheVariants as keyword
 use Rattle.dt_lang.specs.declared.word.Word.{Word}
 use Rattle.dt_lang.specs.declared.word.Word.TheVariants as word
 use Rattle.dt_lang.specs.Expression.{prefix_of, operator_of, binding, OPERAND, comparison_of, EQUALITY, text_token}
+use Rattle.dt_lang.specs.Word.{word_bytes}
 use Rattle.dt_program.specs.Clause.{ArgForm, number, text}
 
 -- What waits for its right side: an open parenthesis (and whether `/` divides outside of it), an operator before its
@@ -26,10 +28,12 @@ pub data PendingForm : Type 0 where
   before : UnaryOp → PendingForm
   after : (left : Form) → BinaryOp → PendingForm
 
--- What is at hand after what is pending: nothing yet, an expression that binds at least so tightly, a text, or a text and
--- its comparison.
+-- What is at hand after what is pending: nothing yet, `self`, `self` and `->`, an expression that binds at least so tightly, a
+-- text, or a text and its comparison.
 pub data HandForm : Type 0 where
   nothing : HandForm
+  self_read : HandForm
+  arrow_read : HandForm
   whole : (level : ℕ) → Form → HandForm
   lone : Text → HandForm
   compares : TextOp → Text → HandForm
@@ -99,9 +103,25 @@ abbrev pub begin : Bool → List PendingForm → Token → Option State
 begin divides pending (token.Number z) = Some (state divides pending (whole OPERAND (Num z)))
 begin divides pending (token.Word (word.Number v)) = Some (state divides pending (whole OPERAND (Named v)))
 begin divides pending (token.Word (word.Text v)) = begin_text divides pending (operand.Variable v)
+begin divides pending (token.Word (word.Keyword keyword.ThreadLocal)) = Some (state divides pending self_read)
 begin divides pending (token.String bytes) = begin_text divides pending (operand.Literal bytes)
 begin divides pending (token.Sign s) = begin_sign divides pending s
 begin divides pending _ = None
+
+-- `self` is at hand
+abbrev pub point : Bool → List PendingForm → Token → Option State
+point divides pending (token.Sign sign.Arrow) = Some (state divides pending arrow_read)
+point divides pending _ = None
+
+-- the name of a variable that a token is after `->`: any identifier may be one
+abbrev pub name_of_token : Token → Option (List ℕ)
+name_of_token (token.Word w) = word_bytes w
+name_of_token _ = None
+
+-- `self` and `->` are at hand
+abbrev pub name_variable : Bool → List PendingForm → Token → Option State
+name_variable divides pending t =
+    option_map (λ name. state divides pending (whole OPERAND (Local name))) (name_of_token t)
 
 -- the operator between operands that a sign is here
 abbrev pub operator_in : Bool → Sign → Option BinaryOp
@@ -142,6 +162,8 @@ compare_with divides pending op a t =
 
 abbrev pub step_from : Bool → List PendingForm → HandForm → Token → Option State
 step_from divides pending nothing t = begin divides pending t
+step_from divides pending self_read t = point divides pending t
+step_from divides pending arrow_read t = name_variable divides pending t
 step_from divides pending (whole level f) t = follow divides pending level f t
 step_from divides pending (lone a) t = compare divides pending a t
 step_from divides pending (compares op a) t = compare_with divides pending op a t
@@ -207,16 +229,22 @@ takes_text_at pending _ = false
 abbrev pub takes_text : State → Bool
 takes_text s = takes_text_at s.pending s.hand
 
--- a number or a number's variable
-abbrev pub is_number : Token → Bool
-is_number (token.Number z) = true
-is_number (token.Word (word.Number v)) = true
-is_number _ = false
+-- an identifier that no operand begins with
+abbrev pub begins_nothing : Word → Bool
+begins_nothing (word.Number v) = false
+begins_nothing (word.Text v) = false
+begins_nothing (word.Keyword keyword.ThreadLocal) = false
+begins_nothing _ = true
 
-abbrev pub is_foreign_word : Word → Bool
-is_foreign_word (word.Number v) = false
-is_foreign_word (word.Text v) = false
-is_foreign_word _ = true
+-- an identifier with more bytes than a name holds
+abbrev pub is_long_word : Token → Bool
+is_long_word (token.Word (word.Unknown None)) = true
+is_long_word _ = false
+
+-- a variable's name with too many bytes, after `self` and `->`
+abbrev pub is_long_name_at : HandForm → Token → Bool
+is_long_name_at arrow_read t = is_long_word t
+is_long_name_at _ t = false
 
 abbrev pub is_foreign_sign : Sign → Bool
 is_foreign_sign sign.OpenBracket = true
@@ -232,7 +260,6 @@ is_foreign_sign _ = false
 abbrev pub is_foreign : Token → Bool
 is_foreign (token.Description description) = true
 is_foreign (token.Aggregation name) = true
-is_foreign (token.Word w) = is_foreign_word w
 is_foreign (token.Sign s) = is_foreign_sign s
 is_foreign _ = false
 

@@ -8,7 +8,7 @@ use Rattle.dt_lang.specs.declared.expression.Hand.TheVariants as hand
 use Rattle.dt_lang.specs.declared.pending.PendingOperator.{PendingOperator}
 use Rattle.dt_lang.specs.declared.pending.PendingOperator.TheVariants as kind
 use Rattle.dt_lang.specs.declared.pending.PendingStack.{PendingStack}
-use Rattle.dt_lang.specs.machine.ExpressionState.{PendingForm, opened, before, after, HandForm, nothing, whole, lone, compares, State}
+use Rattle.dt_lang.specs.machine.ExpressionState.{PendingForm, opened, before, after, HandForm, nothing, self_read, arrow_read, whole, lone, compares, State}
 
 abbrev pub pending_form : PendingOperator → PendingForm
 pending_form (kind.Opened divides) = opened divides
@@ -21,6 +21,8 @@ pending_forms s = reverse (map pending_form s.pending.items)
 
 abbrev pub hand_of : Hand → HandForm
 hand_of hand.Nothing = nothing
+hand_of hand.ThreadLocal = self_read
+hand_of hand.Arrow = arrow_read
 hand_of (hand.Whole level e) = whole level (form_of e)
 hand_of (hand.Lone a) = lone a
 hand_of (hand.Compares op a) = compares op a

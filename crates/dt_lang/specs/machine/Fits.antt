@@ -6,7 +6,7 @@ use Rattle.dt_program.specs.Limits.{clauses_max, tokens_max}
 use Rattle.dt_lang.specs.machine.ExpressionState as expression
 use Rattle.dt_lang.specs.machine.ClauseState.{PlaceForm, outside, described, listed, guarded, body, keyed, assigned, applied, within, bounding, negating, bounded, ProgramState, InsideForm, inside}
 use Rattle.dt_program.specs.Clause.{ArgForm, ClauseForm}
-use Rattle.dt_lang.specs.Stand.{Slot, predicate, given, key, value}
+use Rattle.dt_lang.specs.Stand.{Slot, predicate, given, key, value, assignment}
 
 -- within a clause
 pub record FitsClause (cs : List ClauseForm) (c : ClauseForm) : Type 0 where
@@ -36,12 +36,14 @@ FitsSlot cs c predicate n e = FitsClause cs c
 FitsSlot cs c (given a) n e = FitsStatement cs c
 FitsSlot cs c (key name keys) n e = FitsKey cs c keys n e
 FitsSlot cs c (value name keys fn) n e = FitsTarget cs c keys
+FitsSlot cs c (assignment name) n e = FitsStatement cs c
 
 -- what was read for a slot may be kept
-abbrev pub SlotHasRoom : Slot → Type 0
-SlotHasRoom (key name keys) = length keys < keys_max
-SlotHasRoom (value name keys fn) = length keys ≤ keys_max
-SlotHasRoom _ = Unit {0}
+abbrev pub SlotHasRoom : List ClauseForm → ClauseForm → Slot → Type 0
+SlotHasRoom cs c (key name keys) = length keys < keys_max
+SlotHasRoom cs c (value name keys fn) = length keys ≤ keys_max
+SlotHasRoom cs c (assignment name) = FitsStatement cs c
+SlotHasRoom cs c _ = Unit {0}
 
 -- within what is read for a slot
 pub record FitsWithin (cs : List ClauseForm) (c : ClauseForm) (slot : Slot) (n : ℕ) (e : expression.State) : Type 0 where

@@ -10,5 +10,6 @@ abbrev pub as_word : KnownWord → Word
 as_word (known.Action a) = word.Action a
 as_word (known.Function f) = word.Function f
 as_word (known.Destructive d) = word.Destructive d
+as_word (known.Keyword k) = word.Keyword k
 as_word (known.Number v) = word.Number v
 as_word (known.Text v) = word.Text v

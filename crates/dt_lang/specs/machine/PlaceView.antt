@@ -25,6 +25,7 @@ slot_form slot.Predicate = stand.predicate
 slot_form (slot.Given a) = stand.given a
 slot_form (slot.Key t) = stand.key t.name (key_forms t)
 slot_form (slot.Value t fn) = stand.value t.name (key_forms t) fn
+slot_form (slot.Assignment name) = stand.assignment name
 
 abbrev pub bound_of : Bound → state.BoundForm
 bound_of bound.Lower = state.at_lower
@@ -43,6 +44,10 @@ inside_form (inside.Applied t fn) = state.applied t.name (key_forms t) fn
 inside_form (inside.Bounding l) = state.bounding l.target.name (key_forms l.target) (form_of l.value) (bound_of l.bound)
 inside_form (inside.Negating l) = state.negating l.target.name (key_forms l.target) (form_of l.value) (bound_of l.bound)
 inside_form (inside.Bounded l z) = state.bounded l.target.name (key_forms l.target) (form_of l.value) (bound_of l.bound) z
+inside_form inside.ThreadLocal = state.self_read
+inside_form inside.Arrow = state.arrow_read
+inside_form (inside.Variable name) = state.variable name
+inside_form (inside.Drawing name) = state.drawing name
 
 -- the place, where expressions are read in this state
 abbrev pub place_form : expression.State → ReaderPlace → state.PlaceForm

@@ -1,6 +1,6 @@
 -- Private to the proofs.
 -- The causes that a token shows at its place, before it is known whether it goes on; and the answer to it.
-use Rattle.std.specs.Prelude.{◌≡◌, ℕ, Bool, true, false, Option, Some, None, Err}
+use Rattle.std.specs.Prelude.{◌≡◌, ℕ, Bool, true, false, not, ◌&&◌, if◌then◌else◌, Option, Some, None, Err}
 use Rattle.dt_lang.specs.declared.fault.LangFault.{LangFault}
 use Rattle.dt_lang.specs.declared.fault.LangFault.TheVariants as fault
 use Rattle.dt_lang.specs.declared.fault.TokenRefusal.{TokenRefusal}
@@ -10,11 +10,13 @@ use Rattle.dt_lang.specs.declared.fault.Flaw.{Flaw}
 use Rattle.dt_lang.specs.declared.fault.Flaw.TheVariants as flaw
 use Rattle.dt_lang.specs.declared.token.Token.{Token}
 use Rattle.dt_lang.specs.declared.token.Token.TheVariants as token
+use Rattle.dt_lang.specs.declared.word.Keyword.TheVariants as keyword
 use Rattle.dt_lang.specs.declared.word.Word.TheVariants as word
 use Rattle.dt_lang.specs.machine.ExpressionState as expression
 use Rattle.dt_lang.specs.Grammar.{before_statement}
-use Rattle.dt_lang.specs.machine.Cause.{cause_of}
-use Rattle.dt_lang.specs.machine.ClauseState.{PlaceForm, body, assigned, within, ProgramState, program_step, inside}
+use Rattle.dt_lang.specs.machine.Cause.{cause_of, is_excluded}
+use Rattle.dt_program.specs.Clause.{ClauseForm}
+use Rattle.dt_lang.specs.machine.ClauseState.{PlaceForm, body, assigned, within, draws, ProgramState, program_step, inside}
 use Rattle.dt_lang.specs.machine.Fits.{Fits}
 use Rattle.dt_lang.specs.Refused.{Cause, because, destroys}
 
@@ -31,8 +33,14 @@ shown_elsewhere _ = None
 abbrev pub shown_before_statement : Token → Option Cause
 shown_before_statement (token.Word (word.Destructive what)) = Some (destroys what)
 shown_before_statement (token.Word (word.Action a)) = None
+shown_before_statement (token.Word (word.Keyword keyword.ThreadLocal)) = None
 shown_before_statement (token.Word w) = Some (because flaw.Action)
 shown_before_statement t = shown_elsewhere t
+
+-- a statement that may not stand there is excluded by an earlier one
+abbrev pub shown_or_excluded : ClauseForm → Token → Option Cause → Option Cause
+shown_or_excluded c t (Some cause) = Some cause
+shown_or_excluded c t None = if is_excluded c t then Some (because flaw.Spec) else None
 
 -- where an aggregating function's name stands
 abbrev pub shown_assigned : Token → Option Cause
@@ -44,6 +52,7 @@ shown_assigned t = shown_elsewhere t
 abbrev pub shown_operand : Token → Option Cause
 shown_operand (token.Word (word.Number v)) = None
 shown_operand (token.Word (word.Text v)) = None
+shown_operand (token.Word (word.Keyword keyword.ThreadLocal)) = None
 shown_operand (token.Word w) = Some (because flaw.Variable)
 shown_operand t = shown_elsewhere t
 
@@ -52,11 +61,11 @@ abbrev pub shown_within : (wants : Bool) → Token → Option Cause
 shown_within true t = shown_operand t
 shown_within false t = shown_elsewhere t
 
-abbrev pub shown_at : PlaceForm → Token → Option Cause
-shown_at (body before_statement) t = shown_before_statement t
-shown_at (inside (assigned name keys)) t = shown_assigned t
-shown_at (within slot n e) t = shown_within (expression.wants e) t
-shown_at _ t = shown_elsewhere t
+abbrev pub shown_at : ClauseForm → PlaceForm → Token → Option Cause
+shown_at c (body before_statement) t = shown_or_excluded c t (shown_before_statement t)
+shown_at c (inside (assigned name keys)) t = shown_assigned t
+shown_at c (within slot n e) t = shown_within (expression.wants e && not (draws slot n t)) t
+shown_at c _ t = shown_elsewhere t
 
 -- What came of a token that shows none of those causes: `next` is what it leads to, and `range` the fault of the bounds
 -- where it ends an `lquantize` with wrong ones.

@@ -60,7 +60,7 @@ ending s (Some end) = refl
 
 module _ (account : Account) (registry : Registry) where
   happening : (s : SetUp) (event : TracingEvent) → seen_in (happens account registry s event) ≡ seen_count (event ∷ s.since)
-  happening s event = ending (with_event s event) (end_by account registry (with_event s event) event)
+  happening s event = ending (with_event s event) (end_by account registry s event)
 
   -- a line sees nothing
   line_sees_nothing : (s : SetUp) (said : Result Ask Refusal) → seen_in (after_item account registry s (asked said)) ≡ seen_in s

@@ -49,7 +49,7 @@ least s cells h = elim h [ inl room ↦ omega (arith, room) | inr idle ↦ idle.
 
 module _ (account : Account) (registry : Registry) where
   keeps_history : (s : SetUp) (event : TracingEvent) → (happens account registry s event).options.histsize ≡ s.options.histsize
-  keeps_history s event = same_history (with_event s event) (end_by account registry (with_event s event) event)
+  keeps_history s event = same_history (with_event s event) (end_by account registry s event)
 
   -- the line is a `go` that would begin tracing
   abbrev pub Begins : SetUp → Result Ask Refusal → Type 0

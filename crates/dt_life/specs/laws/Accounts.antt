@@ -3,7 +3,7 @@ use Rattle.std.proofs.Common.{◌≡◌, ℕ, ◌+◌, ◌==◌, ◌&&◌, ◌||
 use Rattle.std.proofs.Common.{Result, Ok, Err, map, sum, length, MatchBool, MatchOption, refl, ap, subst, ◌∙◌}
 use Rattle.std.proofs.Math.Path.{fun_ext}
 use Rattle.std.specs.Bool.{nat_le}
-use Rattle.std.specs.List.{find, flat_map, range_with_len}
+use Rattle.std.specs.List.{find, range_with_len}
 use Rattle.std.specs.Option.{is_none, option_and_then, option_map, option_map_or, option_or}
 use Rattle.dt_aggstore.specs.Chosen.{drops}
 use Rattle.dt_aggstore.specs.History as store
@@ -23,22 +23,28 @@ use Rattle.dt_lang.specs.Reads.{program, fault, destructive}
 use Rattle.dt_machine.specs.Registry.{Registry, probe_of}
 use Rattle.dt_machine.specs.Tests.{belongs, is_shown}
 use Rattle.dt_machine.specs.laws.Accounts.{shown_alike}
-use Rattle.dt_record.specs.Layout.{layout_of, layout_size}
+use Rattle.dt_machine.specs.Context.{ContextForm}
+use Rattle.dt_record.specs.Layout.{layout_of}
+use Rattle.dt_speculation.specs.Answers.{failed_draws}
+use Rattle.dt_speculation.specs.Parts.{spec_drops}
 use Rattle.dt_life.specs.Aggregations.{aggregation_of}
 use Rattle.dt_life.specs.Answer.{Answer, enabled, aggregated, described, refused, listed as listed_answer, status as status_answer}
 use Rattle.dt_life.specs.Ask.{Ask, option, enable, go, stop, snap, agg, trunc, status, list, describe, close}
-use Rattle.dt_life.specs.Buffers.{comes_by, comes_since, reserve_on, past_in, errors_in}
+use Rattle.dt_life.specs.Buffers.{comes_by_steps, errors_after, reserve_on, past_in, errors_in}
 use Rattle.dt_life.specs.Life.{Item, asked, fired, SetUp, is_active, is_inactive, is_over, is_readable, phase_of, shapes_in}
 use Rattle.dt_life.specs.Life.{ecbs_in, next_epid, accepts, end_size, has_room, end_by, happens, after_item, set_up, phase, ecbs}
-use Rattle.dt_life.specs.Life.{seen_count, since_then, with_event, with_program}
+use Rattle.dt_life.specs.Life.{attempt_size, seen_count, since_then, tracing_steps, with_event, with_program}
 use Rattle.dt_life.specs.Limits.{end_id}
-use Rattle.dt_life.specs.Options.{is_fill}
-use Rattle.dt_life.specs.Reply.{IsVerdictOnCommand, Accepted, RepliesInQuota, Replies, all_errors, all_aggdrops, ecb_of, refusal_of}
-use Rattle.dt_life.specs.Stores.{given_on, given_since, given_in, aggdrops_in, stores_in}
-use Rattle.dt_life.specs.Takings.{TracingEvent, began, seen, snapped, truncated, ended, closed, is_end, faults}
-use Rattle.dt_life.specs.Takings.{context_at, taken_at, taken_by, first_exit}
-use Rattle.dt_life.specs.TracingSteps.{takes, steps_by, steps_since, taken_on, taken_since}
+use Rattle.dt_life.specs.Options.{OptionsForm, is_fill}
+use Rattle.dt_life.specs.Reply.{IsVerdictOnCommand, Accepted, RepliesInQuota, Replies, all_errors, all_aggdrops, all_dyndrops}
+use Rattle.dt_life.specs.Reply.{all_specdrops, ecb_of, refusal_of}
+use Rattle.dt_life.specs.Stores.{given_after, given_in, aggdrops_in, stores_in}
+use Rattle.dt_life.specs.Variables.{dyndrops_in, specdrops_in, specfails_in}
+use Rattle.dt_life.specs.Takings.{TracingEvent, began, seen, snapped, truncated, ended, closed, is_end}
+use Rattle.dt_life.specs.Takings.{context_at, first_exit, Taking}
+use Rattle.dt_life.specs.TracingSteps.{TracingStep, takes, dynamic_drops, specs_of, steps_by, steps_since, taken_at, taken_by}
 use Rattle.dt_life.specs.Tests.{is_seen}
+use Rattle.dt_life.specs.declared.phase.End.{End}
 use Rattle.dt_life.specs.declared.phase.End.TheVariants.{Exit, History}
 use Rattle.dt_life.specs.declared.refusal.Refusal.{Refusal}
 use Rattle.dt_life.specs.declared.refusal.Refusal.TheVariants as refusal
@@ -56,24 +62,28 @@ module _ (account : Account) (name : List ℕ) (registry : Registry) where
   context_alike (ended end) = refl
   context_alike closed = refl
 
-  module _ (own : List EcbForm) where
-    taken_by_alike : (event : TracingEvent) → taken_by other registry own event ≡ taken_by account registry own event
-    taken_by_alike event = ap (λ context. option_map_or (taken_at (is_end event) own) context []) (context_alike event)
+  module _ (options : OptionsForm) (own : List EcbForm) where
+    taken_by_alike : (steps : List TracingStep) (event : TracingEvent)
+        → taken_by other registry options own steps event ≡ taken_by account registry options own steps event
+    taken_by_alike steps event = ap (λ context. option_map_or
+        (λ (m : ContextForm). taken_at options steps (is_end event) m own) context []) (context_alike event)
 
-    steps_by_alike : (event : TracingEvent) → steps_by other registry own event ≡ steps_by account registry own event
-    steps_by_alike (snapped n) = refl
-    steps_by_alike began = ap (map takes) (taken_by_alike began)
-    steps_by_alike (seen firing) = ap (map takes) (taken_by_alike (seen firing))
-    steps_by_alike (truncated word) = refl
-    steps_by_alike (ended end) = ap (map takes) (taken_by_alike (ended end))
-    steps_by_alike closed = refl
+    steps_by_alike : (steps : List TracingStep) (event : TracingEvent)
+        → steps_by other registry options own steps event ≡ steps_by account registry options own steps event
+    steps_by_alike steps (snapped n) = refl
+    steps_by_alike steps began = ap (map takes) (taken_by_alike steps began)
+    steps_by_alike steps (seen firing) = ap (map takes) (taken_by_alike steps (seen firing))
+    steps_by_alike steps (truncated word) = refl
+    steps_by_alike steps (ended end) = ap (map takes) (taken_by_alike steps (ended end))
+    steps_by_alike steps closed = refl
 
     steps_since_alike : (events : List TracingEvent)
-        → steps_since other registry own events ≡ steps_since account registry own events
+        → steps_since other registry options own events ≡ steps_since account registry options own events
     steps_since_alike [] = refl
     steps_since_alike (event ∷ events) =
-        ap (λ before. before ++ steps_by other registry own event) (steps_since_alike events)
-        ∙ ap (λ now. steps_since account registry own events ++ now) (steps_by_alike event)
+        ap (λ before. before ++ steps_by other registry options own before event) (steps_since_alike events)
+        ∙ ap (λ now. steps_since account registry options own events ++ now)
+        (steps_by_alike (steps_since account registry options own events) event)
 
   -- what a set-up comes to
   module _ (s : SetUp) where
@@ -89,9 +99,13 @@ module _ (account : Account) (name : List ℕ) (registry : Registry) where
         ∙ ap (λ may. is_inactive (phase_of s) && may)
         (enabled_alike account name registry (shapes_in s) (next_epid account registry s) clauses)
 
+    steps_alike : tracing_steps other registry s ≡ tracing_steps account registry s
+    steps_alike =
+        ap (λ own. steps_since other registry s.options own s.since) own_ecbs
+        ∙ steps_since_alike s.options (ecbs_in account registry s) s.since
+
     end_alike : end_size other registry s ≡ end_size account registry s
-    end_alike = ap
-        (λ own. sum (map (λ (ecb : EcbForm). layout_size (layout_of ecb.clause)) (of_probe end_id own))) own_ecbs
+    end_alike = ap (λ own. sum (map (λ (ecb : EcbForm). attempt_size ecb.clause) (of_probe end_id own))) own_ecbs
 
     room_alike : has_room other registry s ≡ has_room account registry s
     room_alike = ap (λ size. not (is_fill s.options.bufpolicy) || nat_le size s.options.bufsize) end_alike
@@ -107,40 +121,42 @@ module _ (account : Account) (name : List ℕ) (registry : Registry) where
     past_alike : (cpu : ℕ) → past_in other registry s cpu ≡ past_in account registry s cpu
     past_alike cpu =
         ap (λ size. past_with (cond (is_fill s.options.bufpolicy && cpu == 0) size 0)
-        (comes_since other registry (ecbs_in other registry s) cpu s.since)) end_alike
-        ∙ ap (λ own. past_with (reserve_on account registry s cpu) (comes_since other registry own cpu s.since)) own_ecbs
-        ∙ ap (λ steps. past_with (reserve_on account registry s cpu) (flat_map (comes_by cpu) steps))
-        (steps_since_alike (ecbs_in account registry s) s.since)
+        (comes_by_steps cpu (tracing_steps other registry s))) end_alike
+        ∙ ap (λ steps. past_with (reserve_on account registry s cpu) (comes_by_steps cpu steps)) steps_alike
 
     errors_alike : (cpu : ℕ) → errors_in other registry s cpu ≡ errors_in account registry s cpu
-    errors_alike cpu =
-        ap (λ own. faults (taken_since other registry own cpu s.since)) own_ecbs
-        ∙ ap (λ steps. faults (flat_map (taken_on cpu) steps)) (steps_since_alike (ecbs_in account registry s) s.since)
-
-    abbrev given_with : List store.Event → store.Past
-    given_with events = record { size = s.options.aggsize; events = events }
+    errors_alike cpu = ap (λ steps. errors_after steps cpu) steps_alike
 
     given_alike : (cpu : ℕ) → given_in other registry s cpu ≡ given_in account registry s cpu
-    given_alike cpu =
-        ap (λ own. given_with (given_since other registry (shapes_in s) own cpu s.since)) own_ecbs
-        ∙ ap (λ steps. given_with (flat_map (given_on (shapes_in s) cpu) steps))
-        (steps_since_alike (ecbs_in account registry s) s.since)
+    given_alike cpu = ap (λ steps. given_after s steps cpu) steps_alike
+
+    dyndrops_alike : (cpu : ℕ) → dyndrops_in other registry s cpu ≡ dyndrops_in account registry s cpu
+    dyndrops_alike cpu = ap (λ steps. dynamic_drops s.options steps cpu) steps_alike
+
+    specdrops_alike : (cpu : ℕ) → specdrops_in other registry s cpu ≡ specdrops_in account registry s cpu
+    specdrops_alike cpu = ap (λ steps. spec_drops (specs_of s.options steps) cpu) steps_alike
+
+    specfails_alike : specfails_in other registry s ≡ specfails_in account registry s
+    specfails_alike = ap (λ steps. failed_draws (specs_of s.options steps).events) steps_alike
 
     stores_alike : stores_in other registry s ≡ stores_in account registry s
     stores_alike = ap (λ (given : ℕ → store.Past). map given (range_with_len 0 registry.cpus)) (fun_ext given_alike)
 
+    abbrev end_at : TracingEvent → List Taking → Option End
+    end_at event taken = option_or (option_map Exit (first_exit taken))
+        (cond (seen_count (event ∷ s.since) == s.options.histsize) (Some History) None)
+
     end_by_alike : (event : TracingEvent) → end_by other registry s event ≡ end_by account registry s event
     end_by_alike event =
-        ap (λ own. option_or (option_map Exit (first_exit (taken_by other registry own event)))
-        (cond (seen_count s.since == s.options.histsize) (Some History) None)) own_ecbs
-        ∙ ap (λ taken. option_or (option_map Exit (first_exit taken))
-        (cond (seen_count s.since == s.options.histsize) (Some History) None))
-        (taken_by_alike (ecbs_in account registry s) event)
+        ap (λ own. end_at event (taken_by other registry s.options own (tracing_steps other registry s) event)) own_ecbs
+        ∙ ap (λ steps. end_at event (taken_by other registry s.options (ecbs_in account registry s) steps event)) steps_alike
+        ∙ ap (end_at event)
+        (taken_by_alike s.options (ecbs_in account registry s) (tracing_steps account registry s) event)
 
   happens_alike : (s : SetUp) (event : TracingEvent) → happens other registry s event ≡ happens account registry s event
   happens_alike s event = ap
       (λ end. option_map_or (λ end. with_event (with_event s event) (ended end)) end (with_event s event))
-      (end_by_alike (with_event s event) event)
+      (end_by_alike s event)
 
   after_alike : (s : SetUp) (item : Item) → after_item other registry s item ≡ after_item account registry s item
   after_alike s (asked (Ok (option (Some setting)))) = refl
@@ -203,15 +219,27 @@ module _ (account : Account) (name : List ℕ) (registry : Registry) where
         (λ own. option_and_then (λ (ecb : EcbForm). option_map (λ probe. (probe, ecb)) (probe_of registry ecb.probe))
         (find (λ (ecb : EcbForm). ecb.epid == epid) own)) ecbs_of_life_alike
 
+    -- a number of each processor
+    each_alike : (f g : SetUp → ℕ → ℕ) → ((s : SetUp) (cpu : ℕ) → f s cpu ≡ g s cpu)
+        → map (f (set_up other registry life)) (range_with_len 0 registry.cpus) ≡ map (g now) (range_with_len 0 registry.cpus)
+    each_alike f g same = ap (λ (each : ℕ → ℕ). map each (range_with_len 0 registry.cpus))
+        (fun_ext (λ cpu. of_set_up (λ s. f s cpu) (λ s. g s cpu) (λ s. same s cpu)))
+
     all_errors_alike : all_errors other registry life ≡ all_errors account registry life
-    all_errors_alike = ap (λ (each : ℕ → ℕ). map each (range_with_len 0 registry.cpus))
-        (fun_ext (λ cpu. of_set_up (λ s. errors_in other registry s cpu) (λ s. errors_in account registry s cpu)
-        (λ s. errors_alike s cpu)))
+    all_errors_alike = each_alike (errors_in other registry) (errors_in account registry) errors_alike
 
     all_aggdrops_alike : all_aggdrops other registry life ≡ all_aggdrops account registry life
-    all_aggdrops_alike = ap (λ (each : ℕ → ℕ). map each (range_with_len 0 registry.cpus))
-        (fun_ext (λ cpu. of_set_up (λ s. aggdrops_in other registry s cpu) (λ s. aggdrops_in account registry s cpu)
-        (λ s. ap drops (given_alike s cpu))))
+    all_aggdrops_alike =
+        each_alike (aggdrops_in other registry) (aggdrops_in account registry) (λ s cpu. ap drops (given_alike s cpu))
+
+    all_dyndrops_alike : all_dyndrops other registry life ≡ all_dyndrops account registry life
+    all_dyndrops_alike = each_alike (dyndrops_in other registry) (dyndrops_in account registry) dyndrops_alike
+
+    all_specdrops_alike : all_specdrops other registry life ≡ all_specdrops account registry life
+    all_specdrops_alike = each_alike (specdrops_in other registry) (specdrops_in account registry) specdrops_alike
+
+    all_specfails_alike : specfails_in other registry (set_up other registry life) ≡ specfails_in account registry now
+    all_specfails_alike = of_set_up (specfails_in other registry) (specfails_in account registry) specfails_alike
 
     enabled_too : (late : Bool) (clauses : List ClauseForm) (s : SetUp) (verdict : Option Refusal)
         → MatchOption (cond late (Some refusal.Busy) None) ((v : EnableVerdict)
@@ -267,6 +295,9 @@ module _ (account : Account) (name : List ℕ) (registry : Registry) where
         h ∙ ap (λ (found : Option (AProbe × EcbForm)). cond (is_none found) (Some refusal.NoEpid) None) (found_alike epid)
     verdict_too close verdict h = h
 
+    abbrev told : List ℕ → List ℕ → List ℕ → List ℕ → ℕ → Answer
+    told = status_answer (phase_of now) (seen_count now.since)
+
     accepted_too : (ask : Ask) (answer : Answer) → Accepted other registry life ask answer
         → Accepted account registry life ask answer
     accepted_too (option setting) answer h = h
@@ -297,11 +328,19 @@ module _ (account : Account) (name : List ℕ) (registry : Registry) where
     accepted_too (trunc word) answer h = h
     accepted_too status answer h =
         h ∙ ap (λ s. status_answer (phase_of s) (seen_count s.since) (all_errors other registry life)
-        (all_aggdrops other registry life)) (set_up_alike life)
-        ∙ ap (λ each. status_answer (phase_of now) (seen_count now.since) each (all_aggdrops other registry life))
-        all_errors_alike
-        ∙ ap (λ each. status_answer (phase_of now) (seen_count now.since) (all_errors account registry life) each)
-        all_aggdrops_alike
+        (all_aggdrops other registry life) (all_dyndrops other registry life) (all_specdrops other registry life)
+        (specfails_in other registry (set_up other registry life))) (set_up_alike life)
+        ∙ ap (λ each. told each (all_aggdrops other registry life) (all_dyndrops other registry life)
+        (all_specdrops other registry life) (specfails_in other registry (set_up other registry life))) all_errors_alike
+        ∙ ap (λ each. told (all_errors account registry life) each (all_dyndrops other registry life)
+        (all_specdrops other registry life) (specfails_in other registry (set_up other registry life))) all_aggdrops_alike
+        ∙ ap (λ each. told (all_errors account registry life) (all_aggdrops account registry life) each
+        (all_specdrops other registry life) (specfails_in other registry (set_up other registry life))) all_dyndrops_alike
+        ∙ ap (λ each. told (all_errors account registry life) (all_aggdrops account registry life)
+        (all_dyndrops account registry life) each (specfails_in other registry (set_up other registry life)))
+        all_specdrops_alike
+        ∙ ap (told (all_errors account registry life) (all_aggdrops account registry life)
+        (all_dyndrops account registry life) (all_specdrops account registry life)) all_specfails_alike
     accepted_too (list (Err wrong)) answer h = h
     accepted_too (list (Ok desc)) answer h =
         h ∙ ap (λ listing. listed_answer (listing desc)) (listed_alike account name registry)

@@ -11,9 +11,10 @@ use Rattle.dt_life.specs.Aggregations.{aggregation_of}
 use Rattle.dt_life.specs.Ask.{option, enable, go, stop, snap, agg, trunc, status, list, describe, close}
 use Rattle.dt_life.specs.Life.{Item, asked, fired, SetUp, accepts, after_item, ecbs_in, end_by, happens, has_room, is_active}
 use Rattle.dt_life.specs.Life.{is_inactive, is_readable, is_stopped, phase_after, phase_of, seen_count, set_up, shapes_in}
-use Rattle.dt_life.specs.Life.{since_then, with_event, with_options, with_program}
+use Rattle.dt_life.specs.Life.{since_then, tracing_steps, with_event, with_options, with_program}
 use Rattle.dt_life.specs.Options.{with_setting}
-use Rattle.dt_life.specs.Takings.{TracingEvent, began, seen, snapped, truncated, ended, closed, first_exit, taken_by}
+use Rattle.dt_life.specs.Takings.{TracingEvent, began, seen, snapped, truncated, ended, closed, first_exit}
+use Rattle.dt_life.specs.TracingSteps.{taken_by}
 use Rattle.dt_life.specs.declared.phase.End.{End}
 use Rattle.dt_life.specs.declared.phase.End.TheVariants.{Stop, Exit, History}
 use Rattle.dt_life.specs.declared.phase.Phase.{Phase}
@@ -69,8 +70,9 @@ module _ (account : Account) (registry : Registry) where
   counted_happens : (s : SetUp) (event : TracingEvent) → seen_count (event ∷ s.since) ≤ s.options.histsize
       → IsCounted (happens account registry s event)
   counted_happens s event le =
-      counted_then s event (end_by account registry (with_event s event) event) le
-      (not_last (first_exit (taken_by account registry (ecbs_in account registry (with_event s event)) event))
+      counted_then s event (end_by account registry s event) le
+      (not_last (first_exit (taken_by account registry s.options (ecbs_in account registry s)
+      (tracing_steps account registry s) event))
       (seen_count (event ∷ s.since)) s.options.histsize le)
 
   counted_after : (s : SetUp) (item : Item) → IsCounted s → IsCounted (after_item account registry s item)

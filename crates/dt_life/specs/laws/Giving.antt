@@ -1,8 +1,7 @@
 -- What clauses give to aggregations.
-use Rattle.std.proofs.Common.{◌≡◌, ℕ, ℤ, pos, zero, suc, ◌+◌, ◌<◌, ◌≤◌, get_or, take, drop, true}
-use Rattle.std.proofs.Common.{List, [], ◌∷◌, ◌++◌, length, Option, Some, None, map, refl, sym, ap, ◌∙◌, subst, arith}
-use Rattle.std.specs.Option.{is_some}
-use Rattle.std.proofs.lemmas.List.{append-nil, get_or-drop, append_assoc, take_all}
+use Rattle.std.proofs.Common.{◌≡◌, ℕ, ℤ, pos, zero, suc, ◌+◌, drop}
+use Rattle.std.proofs.Common.{List, [], ◌∷◌, ◌++◌, length, Option, Some, refl, sym, ap, ◌∙◌, subst, arith}
+use Rattle.std.proofs.lemmas.List.{append-nil, get_or-drop, append_assoc}
 use Rattle.std.proofs.lemmas.Grind.{flat_map-append}
 use Rattle.dt_aggstore.specs.History as store
 use Rattle.dt_aggstore.specs.IsAt.{IsAt}
@@ -10,15 +9,11 @@ use Rattle.dt_aggstore.specs.declared.key.Aggregation.{Aggregation}
 use Rattle.dt_aggstore.specs.declared.key.KeyPart.{KeyPart}
 use Rattle.dt_aggstore.specs.declared.store.AggStore.{AggStore}
 use Rattle.dt_ecb.specs.Shapes.{ShapeForm}
-use Rattle.dt_ecb.specs.declared.parts.Ecb.{Ecb}
 use Rattle.dt_expr.specs.declared.text.Value.{Value}
 use Rattle.dt_expr.specs.declared.text.Value.TheVariants as val
 use Rattle.dt_lang.specs.Program.{StatementForm}
-use Rattle.dt_life.specs.Aggregations.{contributions, contributions_of, number_given}
-use Rattle.dt_life.specs.Takings.{Taking, exit_of, first_exit, through_exit}
+use Rattle.dt_life.specs.Aggregations.{UseForm, contribution_at, key_at, number_at, number_given, split_by, use_by, uses_by}
 use Rattle.dt_life.specs.Uses.{given_then}
-use Rattle.dt_life.specs.Aggregations.{UseForm, contribution_at, key_at, number_at, split_by, use_by, uses_by}
-use Rattle.dt_life.specs.laws.Takings.{row_more, row_split, through_first, through_none}
 
 -- how many values uses take
 abbrev pub span : List UseForm → ℕ
@@ -70,68 +65,6 @@ given_none past st h =
 pub given_both : (past : store.Past) (xs ys : List store.Event)
     → given_then (given_then past xs) ys ≡ given_then past (xs ++ ys)
 given_both past xs ys = ap (λ es. record { size = past.size; events = es }) (append_assoc past.events xs ys)
-
-module _ (shapes : List ShapeForm) where
-  pub contributions-append : (xs ys : List Taking)
-      → contributions shapes (xs ++ ys) ≡ contributions shapes xs ++ contributions shapes ys
-  contributions-append xs ys = flat_map-append (contributions_of shapes) xs ys
-
-  contributions_more : (xs : List Taking) (y : Taking)
-      → contributions shapes (xs ++ y ∷ []) ≡ contributions shapes xs ++ contributions_of shapes y
-  contributions_more xs y =
-      contributions-append xs (y ∷ [])
-      ∙ ap (λ es. contributions shapes xs ++ es) (append-nil (contributions_of shapes y))
-
-  -- some takings, and then one more
-  given_one : (past : store.Past) (xs : List Taking) (y : Taking) (st : AggStore)
-      → IsAt (given_then (given_then past (contributions shapes xs)) (contributions_of shapes y)) st
-      → IsAt (given_then past (contributions shapes (xs ++ y ∷ []))) st
-  given_one past xs y st h =
-      same_at _ _ st
-      (given_both past (contributions shapes xs) (contributions_of shapes y)
-      ∙ ap (given_then past) (sym (contributions_more xs y)))
-      h
-
-  -- one ECB of a row more was taken
-  pub gave_more : (f : Ecb → Taking) (row : List Ecb) (i : ℕ) (ecb : Ecb) (past : store.Past) (st : AggStore)
-      → i < length row → ecb ≡ get_or row i ecb
-      → IsAt (given_then (given_then past (contributions shapes (map f (take i row))))
-      (contributions_of shapes (f ecb))) st
-      → IsAt (given_then past (contributions shapes (map f (take (i + 1) row)))) st
-  gave_more f row i ecb past st inside is h =
-      subst (λ xs. IsAt (given_then past (contributions shapes xs)) st) (sym (row_more f row i ecb inside is))
-      (given_one past (map f (take i row)) (f ecb) st h)
-
-  -- all were
-  pub gave_all : (f : Ecb → Taking) (row : List Ecb) (i : ℕ) (past : store.Past) (st : AggStore) → length row ≤ i
-      → IsAt (given_then past (contributions shapes (map f (take i row)))) st
-      → IsAt (given_then past (contributions shapes (map f row))) st
-  gave_all f row i past st beyond h =
-      subst (λ xs. IsAt (given_then past (contributions shapes (map f xs))) st) (take_all i row beyond) h
-
-  -- the last of the takings up to an exit
-  pub gave_exit : (f : Ecb → Taking) (row : List Ecb) (i : ℕ) (ecb : Ecb) (past : store.Past) (st : AggStore)
-      → i < length row → ecb ≡ get_or row i ecb → first_exit (map f (take i row)) ≡ None
-      → is_some (exit_of (f ecb)) ≡ true
-      → IsAt (given_then (given_then past (contributions shapes (map f (take i row))))
-      (contributions_of shapes (f ecb))) st
-      → IsAt (given_then past (contributions shapes (through_exit (map f row)))) st
-  gave_exit f row i ecb past st inside is stays here h =
-      subst (λ xs. IsAt (given_then past (contributions shapes xs)) st)
-      (sym (ap through_exit (row_split f row i ecb inside is)
-      ∙ through_first (map f (take i row)) (f ecb) (map f (drop (suc i) row)) stays here))
-      (given_one past (map f (take i row)) (f ecb) st h)
-
-  -- none exited
-  pub gave_through : (f : Ecb → Taking) (row : List Ecb) (i : ℕ) (past : store.Past) (st : AggStore) → length row ≤ i
-      → first_exit (map f (take i row)) ≡ None
-      → IsAt (given_then past (contributions shapes (map f (take i row)))) st
-      → IsAt (given_then past (contributions shapes (through_exit (map f row)))) st
-  gave_through f row i past st beyond stays h =
-      let all : take i row ≡ row = take_all i row beyond in
-      subst (λ xs. IsAt (given_then past (contributions shapes xs)) st)
-      (sym (through_none (map f row) (subst (λ xs. first_exit (map f xs) ≡ None) all stays)))
-      (gave_all f row i past st beyond h)
 
 -- what one use gives
 pub gave_one : (past : store.Past) (a : Aggregation) (o : Option Aggregation) (keys place : ℕ) (values : List Value)

@@ -17,10 +17,10 @@ either_event f s t (Some end) ends goes = ends end
 module _ (account : Account) (registry : Registry) (s : SetUp) (event : TracingEvent) where
   pub same_options : (happens account registry s event).options ≡ s.options
   same_options =
-      either_event (λ x. x.options) s (with_event s event) (end_by account registry (with_event s event) event)
+      either_event (λ x. x.options) s (with_event s event) (end_by account registry s event)
       (λ end. refl) refl
 
   pub same_clauses : (happens account registry s event).clauses ≡ s.clauses
   same_clauses =
-      either_event (λ x. x.clauses) s (with_event s event) (end_by account registry (with_event s event) event)
+      either_event (λ x. x.clauses) s (with_event s event) (end_by account registry s event)
       (λ end. refl) refl

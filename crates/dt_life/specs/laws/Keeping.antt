@@ -51,7 +51,7 @@ module _ (account : Account) (registry : Registry) where
   happens_clauses s event (Some why) = refl
 
   pub clauses-happens : (s : SetUp) (event : TracingEvent) → (happens account registry s event).clauses ≡ s.clauses
-  clauses-happens s event = happens_clauses s event (end_by account registry (with_event s event) event)
+  clauses-happens s event = happens_clauses s event (end_by account registry s event)
 
   abbrev pub may_begin : SetUp → Bool
   may_begin s = is_inactive (phase_of s) && has_room account registry s

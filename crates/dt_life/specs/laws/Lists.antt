@@ -1,8 +1,8 @@
 -- What holds at each place of a list.
 use Rattle.std.proofs.Common.{◌≡◌, ◌≢◌, ℕ, zero, suc, ◌<◌, ◌≤◌, not, Bool, true, false, List, [], ◌∷◌, ◌++◌, Option}
 use Rattle.std.proofs.Common.{Some, length, get_or, map, filter, refl, sym, ap, subst, if◌then◌else◌, arith, ◌+◌}
-use Rattle.std.proofs.Common.{replicate, ◌∙◌}
-use Rattle.std.specs.List.{slice_get, slice_set, find, range_with_len, AllByRecursion}
+use Rattle.std.proofs.Common.{replicate, ◌∙◌, ◌||◌}
+use Rattle.std.specs.List.{slice_get, slice_set, find, list_any, range_with_len, AllByRecursion}
 use Rattle.std.specs.Option.{IfSome, option_map}
 
 -- one element was replaced
@@ -58,6 +58,11 @@ pub find-map : {X Y : Type 0} (f : X → Y) (p : Y → Bool) (xs : List X)
 find-map f p [] = refl
 find-map f p (x ∷ xs) =
     found-map (p (f x)) f x (find (λ y. p (f y)) xs) (find p (map f xs)) (find-map f p xs)
+
+pub list_any-map : {X Y : Type 0} (f : X → Y) (p : Y → Bool) (xs : List X)
+    → list_any p (map f xs) ≡ list_any (λ x. p (f x)) xs
+list_any-map f p [] = refl
+list_any-map f p (x ∷ xs) = ap (λ later. p (f x) || later) (list_any-map f p xs)
 
 pub map_twice : {X Y Z : Type 0} (f : X → Y) (g : Y → Z) (xs : List X) → map g (map f xs) ≡ map (λ x. g (f x)) xs
 map_twice f g [] = refl

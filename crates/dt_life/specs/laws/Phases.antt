@@ -31,7 +31,7 @@ module _ (account : Account) (registry : Registry) where
 
   phase_happens : (s : SetUp) (event : TracingEvent) → phase_of (with_event s event) ≡ Active
       → phase_of (happens account registry s event) ≡ phase_by_event account registry s event
-  phase_happens s event active = phase_then s event (end_by account registry (with_event s event) event) active
+  phase_happens s event active = phase_then s event (end_by account registry s event) active
 
   -- what becomes of a phase by a reading or a truncation: nothing
   pub going_on : (s : SetUp) → phase_of s ≡ Active → (item : Item)

@@ -1,10 +1,10 @@
 -- What a life's takings leave fits the layouts of their clauses.
 use Rattle.std.proofs.Common.{◌≡◌, ℕ, ◌+◌, ◌-◌, ◌≤◌, ◌==◌, ◌&&◌, ◌||◌, Bool, true, false, cond, not}
-use Rattle.std.proofs.Common.{List, [], ◌∷◌, ◌++◌, Option, Some, None, Ok, Err, IfSome, is_none, is_some, length, map}
+use Rattle.std.proofs.Common.{List, [], ◌∷◌, ◌++◌, Option, Some, None, Ok, Err, IfSome, is_none, length, map}
 use Rattle.std.proofs.Common.{filter, nat_lt, refl, sym, ap, subst, ◌∙◌, arith, ltb-false, append_assoc, length-append}
 use Rattle.std.proofs.lemmas.Bool.{and_parts}
 use Rattle.std.specs.List.{AllByRecursion, flat_map, enumerate_from, slice_get, list_any}
-use Rattle.std.specs.Option.{option_map_or, option_and_then}
+use Rattle.std.specs.Option.{option_map, option_map_or, option_and_then, option_to_list}
 use Rattle.dt_cred.specs.declared.account.Account.{Account}
 use Rattle.dt_cred.specs.declared.probe.Probe.{Probe}
 use Rattle.dt_ecb.specs.Ecbs.{EcbForm, added, ecbs_of, numbered, of_probe, pairs_of, pairs_of_clause}
@@ -17,25 +17,38 @@ use Rattle.dt_machine.specs.Registry.{Registry}
 use Rattle.dt_program.specs.Program.{ClauseForm}
 use Rattle.dt_program.specs.Written.{IsWrittenClause}
 use Rattle.dt_record.specs.Layout.{layout_of}
+use Rattle.dt_expr.specs.Scene.{SceneForm}
+use Rattle.dt_record.specs.Pasts.{TracingPast, past_then}
 use Rattle.dt_record.specs.Showing.{CanBeTaken, FitLayout, IsLeftBy}
-use Rattle.dt_record.specs.Taking.{Outcome, TakenForm, abandoned, passed_over, leaves, left_in, taking}
+use Rattle.dt_record.specs.Taking.{ClauseTaken, Outcome, SpecEndForm, TakenForm, abandoned, passed_over, leaves, left_in}
+use Rattle.dt_record.specs.Taking.{taking}
+use Rattle.dt_record.specs.laws.Bounds.{AllFit, all_fit-append, bounds_of, taking_fit}
 use Rattle.dt_record.specs.laws.Fitting.{records-fit}
+use Rattle.dt_speculation.specs.History.{SpecEvent, draw, put_under, free}
+use Rattle.dt_speculation.specs.Limits.{nspec_max}
+use Rattle.dt_speculation.specs.laws.Pieces.{PutIs}
 use Rattle.dt_life.specs.Aggregations.{aggregation_of}
 use Rattle.dt_life.specs.Ask.{option, enable, go, stop, snap, agg, trunc, status, list, describe, close}
 use Rattle.dt_life.specs.Life.{Item, asked, fired, SetUp, accepts, after_item, ecbs, ecbs_in, end_by, happens, has_room}
 use Rattle.dt_life.specs.Life.{is_active, is_inactive, is_readable, is_stopped, next_epid, phase_of, set_up, shapes_in}
 use Rattle.dt_life.specs.Life.{since_then, with_event, with_options, with_program}
+use Rattle.dt_life.specs.Life.{tracing_steps}
+use Rattle.dt_life.specs.Options.{OptionsForm, Setting, size, policy, entries, history, variables, speculations, parts}
 use Rattle.dt_life.specs.Options.{with_setting}
-use Rattle.dt_life.specs.Scenes.{IsItemInBounds, IsLifeInBounds, IsOfLayout}
+use Rattle.dt_life.specs.Scenes.{IsItemInBounds, IsLifeInBounds, IsOfLayout, IsSettingInBounds}
+use Rattle.dt_life.specs.Variables.{locals}
 use Rattle.dt_life.specs.Takings.{TracingEvent, began, seen, snapped, truncated, ended, closed, is_end, Taking}
+use Rattle.dt_life.specs.Takings.{assignments_of, context_at, cpu_of, draws_of, ends_of, freed_by, left_by, puts_of, scene_at}
+use Rattle.dt_life.specs.Takings.{spec_events_of, taking_of}
+use Rattle.dt_life.specs.TracingSteps.{TracingStep, takes, reads, truncates, assigned_in, past_of_steps, speculated_in}
+use Rattle.dt_life.specs.TracingSteps.{steps_and, steps_since, steps_then, taken_at, taken_by, taken_on}
 use Rattle.dt_machine.specs.Context.{ContextForm}
-use Rattle.dt_life.specs.Takings.{exit_of, context_at, record_of, scene_at, taken_at, taken_by, taking_of, through_exit}
-use Rattle.dt_life.specs.TracingSteps.{TracingStep, takes, reads, truncates, cpu_of, steps_by, steps_since, taken_on}
-use Rattle.dt_life.specs.TracingSteps.{taken_since}
 use Rattle.dt_life.specs.declared.phase.End.{End}
 use Rattle.dt_life.specs.declared.phase.End.TheVariants.{Stop}
 use Rattle.dt_life.specs.laws.Lists.{unheld}
+use Rattle.dt_life.specs.laws.Pasts.{IsNoPut, drawn_quiet, freed_quiet, past_more, past_same}
 use Rattle.dt_life.specs.laws.Scenes.{IsEventInBounds, IsContextInBounds, all_mapped, can_be_taken, context_in_bounds}
+use Rattle.dt_life.specs.laws.TracingSteps.{along, steps_none}
 
 -- lists
 pub all_joined : {A : Type 0} (P : A → Type 0) (xs ys : List A) → AllByRecursion P xs → AllByRecursion P ys
@@ -134,6 +147,7 @@ module _ (account : Account) (registry : Registry) where
   pub record IsSetUpInBounds (s : SetUp) : Type 0 where
     pub written : AllByRecursion IsWrittenClause s.clauses
     pub few : length (ecbs_in account registry s) ≤ ecbs_max
+    pub few_speculations : s.options.nspec ≤ nspec_max
     pub seen_in : AllByRecursion IsEventInBounds s.since
 
   either : (s t : SetUp) (b : Bool) → (b ≡ true → IsSetUpInBounds t) → IsSetUpInBounds s → IsSetUpInBounds (cond b t s)
@@ -146,7 +160,12 @@ module _ (account : Account) (registry : Registry) where
 
   event_in : (s : SetUp) (event : TracingEvent) → IsEventInBounds event → IsSetUpInBounds s
       → IsSetUpInBounds (with_event s event)
-  event_in s event is h = record { written = h.written; few = h.few; seen_in = (is, h.seen_in) }
+  event_in s event is h = record {
+    written = h.written;
+    few = h.few;
+    few_speculations = h.few_speculations;
+    seen_in = (is, h.seen_in);
+  }
 
   ends_in : (s : SetUp) (end : Option End) → IsSetUpInBounds s
       → IsSetUpInBounds (option_map_or (λ end. with_event s (ended end)) end s)
@@ -156,7 +175,17 @@ module _ (account : Account) (registry : Registry) where
   happens_in : (s : SetUp) (event : TracingEvent) → IsEventInBounds event → IsSetUpInBounds s
       → IsSetUpInBounds (happens account registry s event)
   happens_in s event is h =
-      ends_in (with_event s event) (end_by account registry (with_event s event) event) (event_in s event is h)
+      ends_in (with_event s event) (end_by account registry s event) (event_in s event is h)
+
+  setting_few : (options : OptionsForm) (setting : Setting) → IsSettingInBounds setting → options.nspec ≤ nspec_max
+      → (with_setting options setting).nspec ≤ nspec_max
+  setting_few options (size n) is few = few
+  setting_few options (policy p) is few = few
+  setting_few options (entries n) is few = few
+  setting_few options (history n) is few = few
+  setting_few options (variables n) is few = few
+  setting_few options (speculations n) is few = is
+  setting_few options (parts n) is few = few
 
   module _ (go_on : (before clauses : List ClauseForm) → ecbs_of account registry (before ++ clauses)
       ≡ ecbs_of account registry before ++ added account registry (length (ecbs_of account registry before) + 1) clauses)
@@ -183,18 +212,29 @@ module _ (account : Account) (registry : Registry) where
       item_leaves s (asked (Ok (option None))) is h = h
       item_leaves s (asked (Ok (option (Some setting)))) is h =
           either s (with_options s (with_setting s.options setting)) (is_inactive (phase_of s))
-          (λ quiet. record { written = h.written; few = h.few; seen_in = h.seen_in }) h
+          (λ quiet. record {
+            written = h.written;
+            few = h.few;
+            few_speculations = setting_few s.options setting is h.few_speculations;
+            seen_in = h.seen_in;
+          }) h
       item_leaves s (asked (Ok (enable (program clauses)))) is h =
           either s (with_program s clauses) (accepts account registry s clauses) (λ accepted. record {
             written = all_joined IsWrittenClause s.clauses clauses h.written is.each;
             few = few_more s clauses accepted;
+            few_speculations = h.few_speculations;
             seen_in = h.seen_in;
           }) h
       item_leaves s (asked (Ok (enable (fault at why)))) is h = h
       item_leaves s (asked (Ok (enable (destructive at what)))) is h = h
       item_leaves s (asked (Ok go)) is h =
           either s (happens account registry (since_then s []) began) (is_inactive (phase_of s) && has_room account registry s)
-          (λ may. happens_in (since_then s []) began tt (record { written = h.written; few = h.few; seen_in = tt })) h
+          (λ may. happens_in (since_then s []) began tt (record {
+            written = h.written;
+            few = h.few;
+            few_speculations = h.few_speculations;
+            seen_in = tt;
+          })) h
       item_leaves s (asked (Ok stop)) is h =
           either s (with_event s (ended Stop)) (is_active (phase_of s)) (λ on. event_in s (ended Stop) tt h) h
       item_leaves s (asked (Ok (snap cpu))) is h =
@@ -215,15 +255,27 @@ module _ (account : Account) (registry : Registry) where
 
       pub set_up_in : (life : List Item) → AllByRecursion IsItemInBounds life
           → IsSetUpInBounds (set_up account registry life)
-      set_up_in [] h = record { written = tt; few = omega arith; seen_in = tt }
+      set_up_in [] h = record { written = tt; few = omega arith; few_speculations = omega arith; seen_in = tt }
       set_up_in (item ∷ life) h = item_leaves (set_up account registry life) item h.0 (set_up_in life h.1)
+
+-- what is put under identifiers is a record that a clause left
+abbrev pub IsPutOf : List ClauseForm → SpecEvent → Type 0
+IsPutOf clauses event = PutIs (IsLeftBy clauses) event
+
+-- what came to variables and to speculations is within bounds
+pub record IsPastOf (clauses : List ClauseForm) (past : TracingPast) : Type 0 where
+  pub assigned_fit : AllFit past.locals.assignments
+  pub few : past.specs.nspec ≤ nspec_max
+  pub puts : AllByRecursion (IsPutOf clauses) past.specs.events
 
 -- takings
 pub record IsTakenOf (clauses : List ClauseForm) (t : Taking) : Type 0 where
   pub in_end : Bool
+  pub past : TracingPast
   pub context : ContextForm
   pub ecb : EcbForm
-  pub same : t ≡ taking_of in_end context ecb
+  pub same : t ≡ taking_of in_end past context ecb
+  pub past_is : IsPastOf clauses past
   pub context_is : IsContextInBounds context
   pub ecb_is : IsEcbOf clauses ecb
 
@@ -234,130 +286,176 @@ IsStepOf clauses (reads cpu) = Unit {0}
 IsStepOf clauses (truncates name) = Unit {0}
 
 module _ (clauses : List ClauseForm) where
-  through_in : (takings : List Taking) → AllByRecursion (IsTakenOf clauses) takings
-      → AllByRecursion (IsTakenOf clauses) (through_exit takings)
-  through_in [] h = tt
-  through_in (t ∷ later) h = (h.0, stop_or (is_some (exit_of t)) (through_in later h.1))
-    where
-      stop_or : (b : Bool) → AllByRecursion (IsTakenOf clauses) (through_exit later)
-          → AllByRecursion (IsTakenOf clauses) (cond b [] (through_exit later))
-      stop_or true k = tt
-      stop_or false k = k
-
-  module _ (ecbs : List EcbForm) (are : AllByRecursion (IsEcbOf clauses) ecbs) where
-    taken_at_in : (in_end : Bool) (m : ContextForm) → IsContextInBounds m
-        → AllByRecursion (IsTakenOf clauses) (taken_at in_end ecbs m)
-    taken_at_in in_end m is = either in_end
-      where
-        all : AllByRecursion (IsTakenOf clauses) (map (taking_of in_end m) (of_probe m.firing.probe ecbs))
-        all = all_mapped (IsEcbOf clauses) (IsTakenOf clauses) (taking_of in_end m)
-            (λ ecb one. record {
-              in_end = in_end;
-              context = m;
-              ecb = ecb;
-              same = refl;
-              context_is = is;
-              ecb_is = one;
-            })
-            (of_probe m.firing.probe ecbs)
-            (all_filtered (IsEcbOf clauses) (λ ecb. ecb.probe == m.firing.probe) ecbs are)
-
-        either : (b : Bool) → AllByRecursion (IsTakenOf clauses)
-            (cond b (map (taking_of in_end m) (of_probe m.firing.probe ecbs))
-            (through_exit (map (taking_of in_end m) (of_probe m.firing.probe ecbs))))
-        either true = all
-        either false = through_in (map (taking_of in_end m) (of_probe m.firing.probe ecbs)) all
-
-    module _ (account : Account) (registry : Registry)
-        (contexts : (event : TracingEvent) → IsEventInBounds event
-        → IfSome (context_at account registry event) IsContextInBounds) where
-      taken_by_in : (event : TracingEvent) → IsEventInBounds event
-          → AllByRecursion (IsTakenOf clauses) (taken_by account registry ecbs event)
-      taken_by_in event is = at (context_at account registry event) (contexts event is)
-        where
-          at : (o : Option ContextForm) → IfSome o IsContextInBounds
-              → AllByRecursion (IsTakenOf clauses) (option_map_or (taken_at (is_end event) ecbs) o [])
-          at None h = tt
-          at (Some m) h = taken_at_in (is_end event) m h
-
-      all_takes : (event : TracingEvent) → IsEventInBounds event
-          → AllByRecursion (IsStepOf clauses) (map takes (taken_by account registry ecbs event))
-      all_takes event is =
-          all_mapped (IsTakenOf clauses) (IsStepOf clauses) takes (λ t one. one) (taken_by account registry ecbs event)
-          (taken_by_in event is)
-
-      steps_by_in : (event : TracingEvent) → IsEventInBounds event
-          → AllByRecursion (IsStepOf clauses) (steps_by account registry ecbs event)
-      steps_by_in began is = all_takes began is
-      steps_by_in (seen firing) is = all_takes (seen firing) is
-      steps_by_in (snapped cpu) is = (tt, tt)
-      steps_by_in (truncated name) is = (tt, tt)
-      steps_by_in (ended end) is = all_takes (ended end) is
-      steps_by_in closed is = tt
-
-      pub steps_since_in : (events : List TracingEvent) → AllByRecursion IsEventInBounds events
-          → AllByRecursion (IsStepOf clauses) (steps_since account registry ecbs events)
-      steps_since_in [] h = tt
-      steps_since_in (event ∷ events) h =
-          all_joined (IsStepOf clauses) (steps_since account registry ecbs events) (steps_by account registry ecbs event)
-          (steps_since_in events h.1) (steps_by_in event h.0)
-
   -- those of one processor
-  taken_on_in : (cpu : ℕ) (step : TracingStep) → IsStepOf clauses step
+  pub taken_on_in : (cpu : ℕ) (step : TracingStep) → IsStepOf clauses step
       → AllByRecursion (IsTakenOf clauses) (taken_on cpu step)
   taken_on_in cpu (takes t) is = all_where (IsTakenOf clauses) (cpu_of t == cpu) (t ∷ []) (is, tt)
   taken_on_in cpu (reads n) is = tt
   taken_on_in cpu (truncates name) is = tt
 
-  -- each can be taken
-  can_take : (t : Taking) (is : IsTakenOf clauses t) → CanBeTaken (scene_at is.context is.ecb.epid) is.ecb.clause
-  can_take t is =
-      let few = is.ecb_is.few in
-      can_be_taken is.context is.ecb.epid is.ecb.clause is.context_is (omega arith) is.ecb_is.written
+  module _ (t : Taking) (is : IsTakenOf clauses t) where
+    abbrev scene : SceneForm
+    scene = scene_at is.context is.ecb.epid
 
-  outcome_of_layout : (t : Taking) (is : IsTakenOf clauses t) (outcome : Outcome)
-      → taking is.ecb.epid (scene_at is.context is.ecb.epid) is.ecb.clause ≡ outcome
-      → IfSome (left_in outcome)
-      (λ left. FitLayout is.ecb.epid (scene_at is.context is.ecb.epid) is.ecb.clause (layout_of is.ecb.clause)
-      left.record_bytes)
-  outcome_of_layout t is abandoned e = tt
-  outcome_of_layout t is passed_over e = tt
-  outcome_of_layout t is (leaves left) e =
-      records-fit is.ecb.epid (scene_at is.context is.ecb.epid) is.ecb.clause left (can_take t is) e
+    abbrev taken : ClauseTaken
+    taken = taking is.ecb.epid scene is.past is.ecb.clause
 
-  -- what it left fits the layout
-  pub taken_of_layout : (t : Taking) → IsTakenOf clauses t → IsOfLayout t
-  taken_of_layout t is =
-      subst IsOfLayout (sym is.same)
-      (outcome_of_layout t is (taking is.ecb.epid (scene_at is.context is.ecb.epid) is.ecb.clause) refl)
+    -- each can be taken
+    can_take : CanBeTaken scene is.past is.ecb.clause
+    can_take =
+        let few = is.ecb_is.few in
+        can_be_taken is.context is.ecb.epid is.past is.ecb.clause is.context_is (omega arith)
+        (bounds_of is.past.locals is.past_is.assigned_fit) is.past_is.few is.ecb_is.written
 
-  outcome_left : (t : Taking) (is : IsTakenOf clauses t) (outcome : Outcome) (bytes : List ℕ)
-      → taking is.ecb.epid (scene_at is.context is.ecb.epid) is.ecb.clause ≡ outcome
-      → option_and_then (λ (form : TakenForm). form.record_bytes) (left_in outcome) ≡ Some bytes
-      → IsLeftBy clauses bytes
-  outcome_left t is abandoned bytes e these = cc
-  outcome_left t is passed_over bytes e these = cc
-  outcome_left t is (leaves left) bytes e these =
-      let few = is.ecb_is.few in
-      let counted = is.ecb_is.counted in
-      record {
-        place = is.ecb_is.place;
-        small = omega arith;
-        clause = is.ecb.clause;
-        there = is.ecb_is.named;
-        scene = scene_at is.context is.ecb.epid;
-        can = can_take t is;
-        left = left;
-        taken = subst (λ n. taking n (scene_at is.context is.ecb.epid) is.ecb.clause ≡ leaves left) counted e;
-        these = these;
-      }
+    outcome_of_layout : (outcome : Outcome) → taken.outcome ≡ outcome
+        → IfSome (left_in outcome)
+        (λ left. FitLayout is.ecb.epid scene is.past is.ecb.clause (layout_of is.ecb.clause) left.record_bytes)
+    outcome_of_layout abandoned e = tt
+    outcome_of_layout passed_over e = tt
+    outcome_of_layout (leaves left) e = records-fit is.ecb.epid scene is.past is.ecb.clause left can_take e
 
-  -- and its record is one that a clause left
-  pub taken_left : (t : Taking) → IsTakenOf clauses t → (bytes : List ℕ) → record_of t ≡ Some bytes
-      → IsLeftBy clauses bytes
-  taken_left t is bytes e =
-      outcome_left t is (taking is.ecb.epid (scene_at is.context is.ecb.epid) is.ecb.clause) bytes refl
-      (subst (λ x. record_of x ≡ Some bytes) is.same e)
+    -- what it left fits the layout
+    pub taken_of_layout : IsOfLayout t
+    taken_of_layout = subst IsOfLayout (sym is.same) (outcome_of_layout taken.outcome refl)
+
+    outcome_left : (outcome : Outcome) (left : TakenForm) (bytes : List ℕ) → taken.outcome ≡ outcome
+        → left_in outcome ≡ Some left → left.record_bytes ≡ Some bytes → IsLeftBy clauses bytes
+    outcome_left abandoned left bytes e is_left these = cc
+    outcome_left passed_over left bytes e is_left these = cc
+    outcome_left (leaves form) left bytes e is_left these =
+        let few = is.ecb_is.few in
+        let counted = is.ecb_is.counted in
+        let one : form ≡ left = cc in
+        record {
+          place = is.ecb_is.place;
+          small = omega arith;
+          clause = is.ecb.clause;
+          there = is.ecb_is.named;
+          scene = scene;
+          past = is.past;
+          can = can_take;
+          left = left;
+          taken = subst (λ n. (taking n scene is.past is.ecb.clause).outcome ≡ leaves left) counted (e ∙ ap leaves one);
+          these = these;
+        }
+
+    -- and its record is one that a clause left
+    pub taken_left : (left : TakenForm) (bytes : List ℕ) → left_by t ≡ Some left → left.record_bytes ≡ Some bytes
+        → IsLeftBy clauses bytes
+    taken_left left bytes is_left these =
+        outcome_left taken.outcome left bytes refl (subst (λ x. left_by x ≡ Some left) is.same is_left) these
+
+    -- also where it is put under an identifier
+    put_where : (id : Option ℕ) (left : TakenForm) (o : Option (List ℕ)) → left_by t ≡ Some left → left.record_bytes ≡ o
+        → AllByRecursion (IsPutOf clauses)
+        (option_to_list (option_and_then (λ id. option_map (put_under id (cpu_of t)) o) id))
+    put_where None left o is_left e = tt
+    put_where (Some id) left None is_left e = tt
+    put_where (Some id) left (Some bytes) is_left e = (taken_left left bytes is_left e, tt)
+
+    put_by : (o : Option TakenForm) → left_by t ≡ o → AllByRecursion (IsPutOf clauses) (option_to_list (option_and_then
+        (λ (form : TakenForm). option_and_then (λ id. option_map (put_under id (cpu_of t)) form.record_bytes) form.spec) o))
+    put_by None e = tt
+    put_by (Some left) e = put_where left.spec left left.record_bytes e refl
+
+    no_put : (events : List SpecEvent) → AllByRecursion IsNoPut events → AllByRecursion (IsPutOf clauses) events
+    no_put [] h = tt
+    no_put (draw answer ∷ later) h = (tt, no_put later h.1)
+    no_put (put_under id cpu bytes ∷ later) h = absurd h.0
+    no_put (free id ∷ later) h = (tt, no_put later h.1)
+
+    -- what comes to speculations before its ends, and by these
+    pub drawn_and_put_in : AllByRecursion (IsPutOf clauses) (draws_of t ++ puts_of t)
+    drawn_and_put_in =
+        all_joined (IsPutOf clauses) (draws_of t) (puts_of t) (no_put (draws_of t) (drawn_quiet t.taken.effects))
+        (put_by (left_by t) refl)
+
+    pub freed_in : (ends : List SpecEndForm) → AllByRecursion (IsPutOf clauses) (freed_by ends)
+    freed_in ends = no_put (freed_by ends) (freed_quiet ends)
+
+    -- and so the past after it is within bounds
+    after_taken : IsPastOf clauses t.past → IsPastOf clauses (past_then t.past (assignments_of t) (spec_events_of t))
+    after_taken h = record {
+      assigned_fit = all_fit-append t.past.locals.assignments (assignments_of t) h.assigned_fit
+          (subst (λ (x : Taking). AllFit (assignments_of x)) (sym is.same)
+          (taking_fit is.ecb.epid scene is.past is.ecb.clause can_take));
+      few = h.few;
+      puts = all_joined (IsPutOf clauses) t.past.specs.events (spec_events_of t) h.puts
+          (all_joined (IsPutOf clauses) (draws_of t ++ puts_of t) (freed_by (ends_of t)) drawn_and_put_in
+          (freed_in (ends_of t)));
+    }
+
+  module _ (options : OptionsForm) where
+    -- steps that are so, and what came by them
+    pub record AreStepsOf (steps : List TracingStep) : Type 0 where
+      pub each : AllByRecursion (IsStepOf clauses) steps
+      pub past_is : IsPastOf clauses (past_of_steps options steps)
+
+    steps_quiet : (steps : List TracingStep) (step : TracingStep) → IsStepOf clauses step → assigned_in step ≡ []
+        → speculated_in step ≡ [] → AreStepsOf steps → AreStepsOf (steps ++ step ∷ [])
+    steps_quiet steps step is no_assignment no_event h = record {
+      each = all_joined (IsStepOf clauses) steps (step ∷ []) h.each (is, tt);
+      past_is = subst (IsPastOf clauses) (sym (past_same options steps step no_assignment no_event)) h.past_is;
+    }
+
+    module _ (ecbs : List EcbForm) (are : AllByRecursion (IsEcbOf clauses) ecbs) where
+      one_taken : (in_end : Bool) (m : ContextForm) → IsContextInBounds m → (steps : List TracingStep) (ecb : EcbForm)
+          → AreStepsOf steps → IsEcbOf clauses ecb
+          → AreStepsOf (steps ++ takes (taking_of in_end (past_of_steps options steps) m ecb) ∷ [])
+      one_taken in_end m is steps ecb h one =
+          let t = taking_of in_end (past_of_steps options steps) m ecb in
+          let taken_is : IsTakenOf clauses t = record {
+            in_end = in_end;
+            past = past_of_steps options steps;
+            context = m;
+            ecb = ecb;
+            same = refl;
+            past_is = h.past_is;
+            context_is = is;
+            ecb_is = one;
+          } in
+          record {
+            each = all_joined (IsStepOf clauses) steps (takes t ∷ []) h.each (taken_is, tt);
+            past_is = subst (IsPastOf clauses) (sym (past_more options steps t)) (after_taken t taken_is h.past_is);
+          }
+
+      taken_at_in : (in_end : Bool) (m : ContextForm) → IsContextInBounds m → (steps : List TracingStep) → AreStepsOf steps
+          → AreStepsOf (steps_and steps (taken_at options steps in_end m ecbs))
+      taken_at_in in_end m is steps h =
+          along options in_end m AreStepsOf (IsEcbOf clauses) (one_taken in_end m is)
+          (of_probe m.firing.probe ecbs) (all_filtered (IsEcbOf clauses) (λ ecb. ecb.probe == m.firing.probe) ecbs are)
+          steps h
+
+      module _ (account : Account) (registry : Registry)
+          (contexts : (event : TracingEvent) → IsEventInBounds event
+          → IfSome (context_at account registry event) IsContextInBounds) where
+        taken_by_in : (event : TracingEvent) → IsEventInBounds event → (steps : List TracingStep) → AreStepsOf steps
+            → AreStepsOf (steps_and steps (taken_by account registry options ecbs steps event))
+        taken_by_in event is steps h = at (context_at account registry event) (contexts event is)
+          where
+            at : (o : Option ContextForm) → IfSome o IsContextInBounds
+                → AreStepsOf (steps_and steps (option_map_or
+                (λ (context : ContextForm). taken_at options steps (is_end event) context ecbs) o []))
+            at None k = subst AreStepsOf (sym (steps_none steps)) h
+            at (Some m) k = taken_at_in (is_end event) m k steps h
+
+        steps_then_in : (event : TracingEvent) → IsEventInBounds event → (steps : List TracingStep) → AreStepsOf steps
+            → AreStepsOf (steps_then account registry options ecbs steps event)
+        steps_then_in began is steps h = taken_by_in began is steps h
+        steps_then_in (seen firing) is steps h = taken_by_in (seen firing) is steps h
+        steps_then_in (snapped cpu) is steps h = steps_quiet steps (reads cpu) tt refl refl h
+        steps_then_in (truncated name) is steps h = steps_quiet steps (truncates name) tt refl refl h
+        steps_then_in (ended end) is steps h = taken_by_in (ended end) is steps h
+        steps_then_in closed is steps h = taken_by_in closed is steps h
+
+        pub steps_since_in : options.nspec ≤ nspec_max → (events : List TracingEvent)
+            → AllByRecursion IsEventInBounds events → AreStepsOf (steps_since account registry options ecbs events)
+        steps_since_in few [] h = record {
+          each = tt;
+          past_is = record { assigned_fit = tt; few = few; puts = tt };
+        }
+        steps_since_in few (event ∷ events) h =
+            steps_then_in event h.0 (steps_since account registry options ecbs events) (steps_since_in few events h.1)
 
 -- a whole life
 module _ (account : Account) (registry : Registry)
@@ -373,14 +471,20 @@ module _ (account : Account) (registry : Registry)
   own_ecbs : AllByRecursion (IsEcbOf own_clauses) (ecbs account registry life)
   own_ecbs = ecbs_are account registry (set_up account registry life).clauses own.written own.few
 
-  pub life_steps : AllByRecursion (IsStepOf own_clauses)
-      (steps_since account registry (ecbs account registry life) (set_up account registry life).since)
+  -- The steps of a life within bounds, and the variables after them.
+  pub life_steps : AreStepsOf own_clauses (set_up account registry life).options
+      (tracing_steps account registry (set_up account registry life))
   life_steps =
-      steps_since_in own_clauses (ecbs account registry life) own_ecbs account registry
-      (context_in_bounds account registry is.uid is.processes is.probes) (set_up account registry life).since own.seen_in
+      steps_since_in own_clauses (set_up account registry life).options (ecbs account registry life) own_ecbs account registry
+      (context_in_bounds account registry is.uid is.processes is.probes) own.few_speculations
+      (set_up account registry life).since own.seen_in
 
   pub life_taken : (cpu : ℕ) → AllByRecursion (IsTakenOf own_clauses)
-      (taken_since account registry (ecbs account registry life) cpu (set_up account registry life).since)
+      (flat_map (taken_on cpu) (tracing_steps account registry (set_up account registry life)))
   life_taken cpu =
       all_flat (IsStepOf own_clauses) (IsTakenOf own_clauses) (taken_on cpu) (taken_on_in own_clauses cpu)
-      (steps_since account registry (ecbs account registry life) (set_up account registry life).since) life_steps
+      (tracing_steps account registry (set_up account registry life)) life_steps.each
+
+  -- What is assigned to variables has 64 bits with a sign.
+  pub life_assigned : AllFit (locals account registry life).assignments
+  life_assigned = life_steps.past_is.assigned_fit

@@ -1,6 +1,11 @@
 -- A life on a described machine is within bounds, and so is each scene of its takings.
 use Rattle.std.proofs.Common.{◌≡◌, ℕ, zero, suc, ◌^◌, ◌<◌, ◌≤◌, List, [], ◌∷◌, Option, Some, None, Result, Ok, Err, IfSome}
-use Rattle.std.proofs.Common.{ℤ, pos, FitsSigned, length, map, replicate, refl, subst, arith, lit<}
+use Rattle.std.proofs.Common.{ℤ, pos, FitsSigned, length, map, replicate, refl, subst, arith, lit<, Bool, true, false, cond}
+use Rattle.std.proofs.lemmas.Bool.{and_parts, leb-true}
+use Rattle.std.specs.Bool.{nat_le}
+use Rattle.std.specs.List.{find}
+use Rattle.std.specs.Prelude.{codes}
+use Rattle.std.specs.Str.{bytes_eq}
 use Rattle.std.specs.Int.{w64}
 use Rattle.std.specs.List.{AllByRecursion}
 use Rattle.std.specs.Option.{option_map, option_and_then}
@@ -10,14 +15,14 @@ use Rattle.dt_cred.specs.declared.account.Account.{Account}
 use Rattle.dt_cred.specs.declared.account.Process.{Process}
 use Rattle.dt_cred.specs.declared.firing.Firing.{Firing}
 use Rattle.dt_cred.specs.declared.probe.Probe.{Probe}
-use Rattle.dt_expr.specs.Form.{Form, Num, Named, Prefixed, Joined, Compared}
+use Rattle.dt_expr.specs.Form.{Form, Num, Named, Local, Prefixed, Joined, Compared}
 use Rattle.dt_expr.specs.Scene.{number_named, text_named}
 use Rattle.dt_expr.specs.declared.scene.NumberVariable.{NumberVariable}
 use Rattle.dt_expr.specs.declared.scene.NumberVariable.TheVariants.{Arg0, Arg1, Arg2, Arg3, Arg4, Arg5, Arg6, Arg7, Arg8}
 use Rattle.dt_expr.specs.declared.scene.NumberVariable.TheVariants.{Arg9, Cpu, Pid, Tid, Uid, Timestamp, Id, Epid}
 use Rattle.dt_expr.specs.declared.scene.TextVariable.{TextVariable}
 use Rattle.dt_expr.specs.declared.scene.TextVariable.TheVariants.{Execname, Probeprov, Probemod, Probefunc, Probename}
-use Rattle.dt_expr.specs.declared.text.Text.{Text}
+use Rattle.dt_expr.specs.declared.text.Text.{Text as TextForm}
 use Rattle.dt_expr.specs.declared.text.Text.TheVariants.{Literal, Variable}
 use Rattle.dt_lang.specs.Reads.{Reading, Reads, program, fault, destructive}
 use Rattle.dt_machine.specs.Bounds.{IsFrameInBounds, IsProcessInBounds, IsProbeInBounds, IsFiringInBounds, IsInBounds}
@@ -26,15 +31,22 @@ use Rattle.dt_names.specs.Limits.{padded_size}
 use Rattle.dt_program.specs.Program.{ClauseForm, StatementForm}
 use Rattle.dt_program.specs.Program as statement
 use Rattle.dt_program.specs.Written.{HasWrittenParts, IsWrittenText, IsWrittenStatement, IsWrittenClause, IsWrittenProgram}
-use Rattle.dt_record.specs.Showing.{CanBeTaken, IsExpressionInBounds, IsSceneInBounds, IsStatementInBounds, IsTextInBounds}
+use Rattle.dt_record.specs.Pasts.{TracingPast}
+use Rattle.dt_record.specs.Showing.{AreLocalsInBounds, CanBeTaken, IsExpressionInBounds, IsSceneInBounds, IsStatementInBounds}
+use Rattle.dt_record.specs.Showing.{IsTextInBounds}
+use Rattle.dt_speculation.specs.Limits.{nspec_max}
 use Rattle.dt_life.specs.Ask.{Ask, option, enable, go, stop, snap, agg, trunc, status, list, describe, close}
 use Rattle.dt_life.specs.Life.{Item, asked, fired}
-use Rattle.dt_life.specs.Scenes.{IsItemInBounds, IsLifeInBounds, IsLifeOn, IsReadingInBounds, MayBeAsked, MayReach}
+use Rattle.dt_life.specs.Scenes.{IsItemInBounds, IsLifeInBounds, IsLifeOn, IsReadingInBounds, IsSettingInBounds, MayBeAsked, MayBeSet, MayReach}
 use Rattle.dt_life.specs.Takings.{TracingEvent, began, seen, snapped, truncated, ended, closed, context_at}
 use Rattle.dt_machine.specs.Context.{ContextForm}
 use Rattle.dt_life.specs.Takings.{own_firing, own_process, scene_at}
 use Rattle.dt_machine.specs.Context.{context_in}
+use Rattle.dt_life.specs.Limits.{nspec_min}
+use Rattle.dt_life.specs.Options.{NumberOption, Setting, in_range, number_option, number_options, number_set}
+use Rattle.dt_life.specs.Options.{size, policy, entries, history, variables, speculations, parts}
 use Rattle.dt_life.specs.declared.refusal.Refusal.{Refusal}
+use Rattle.dt_life.specs.laws.Lists.{find_all}
 
 -- lists
 pub all_mapped : {A B : Type 0} (P : A → Type 0) (Q : B → Type 0) (f : A → B) → ((x : A) → P x → Q (f x)) → (xs : List A)
@@ -56,6 +68,42 @@ pub there : {A : Type 0} (P : A → Type 0) (o : Option A) (x : A) → IfSome o 
 there P None x h e = cc
 there P (Some y) x h e = let same : y ≡ x = cc in subst P same h
 
+-- settings
+abbrev IsRight : NumberOption → Type 0
+IsRight one = (n : ℕ) → in_range one.least one.most n ≡ true → IsSettingInBounds (one.sets n)
+
+all_right : AllByRecursion IsRight number_options
+all_right =
+    let few : IsRight (number_option (codes "nspec") nspec_min nspec_max speculations) =
+    λ n h. leb-true n nspec_max (and_parts (nat_le nspec_min n) (nat_le n nspec_max) h).1 in
+    (λ n h. tt, (λ n h. tt, (λ n h. tt, (λ n h. tt, (few, (λ n h. tt, tt))))))
+
+set_where : (one : NumberOption) (n : ℕ) (b : Bool) → in_range one.least one.most n ≡ b → IsRight one
+    → IfSome (cond b (Some (one.sets n)) None) IsSettingInBounds
+set_where one n true e right = right n e
+set_where one n false e right = tt
+
+set_by : (n : ℕ) (o : Option NumberOption) → ((one : NumberOption) → o ≡ Some one → IsRight one)
+    → IfSome (option_and_then (λ (one : NumberOption). cond (in_range one.least one.most n) (Some (one.sets n)) None) o)
+    IsSettingInBounds
+set_by n None right = tt
+set_by n (Some one) right = set_where one n (in_range one.least one.most n) refl (right one refl)
+
+number_set_in : (name : List ℕ) (n : ℕ) → IfSome (number_set name n) IsSettingInBounds
+number_set_in name n =
+    set_by n (find (λ (one : NumberOption). bytes_eq name one.name) number_options)
+    (λ one e. find_all IsRight (λ (one : NumberOption). bytes_eq name one.name) number_options one all_right e)
+
+-- what may be set lies within bounds
+setting_in : (setting : Setting) → MayBeSet setting → IsSettingInBounds setting
+setting_in (size n) h = tt
+setting_in (policy p) h = tt
+setting_in (entries n) h = tt
+setting_in (history n) h = tt
+setting_in (variables n) h = tt
+setting_in (speculations n) h = there IsSettingInBounds (number_set h.0 h.1) (speculations n) (number_set_in h.0 h.1) h.2
+setting_in (parts n) h = tt
+
 -- lives
 module _ (written : (text : List ℕ) (clauses : List ClauseForm) → Reads text (program clauses)
     → IsWrittenProgram clauses) where
@@ -66,7 +114,8 @@ module _ (written : (text : List ℕ) (clauses : List ClauseForm) → Reads text
 
   line_in : (line : Result Ask Refusal) → MayBeAsked line → IsItemInBounds (asked line)
   line_in (Err refusal) h = tt
-  line_in (Ok (option setting)) h = tt
+  line_in (Ok (option None)) h = tt
+  line_in (Ok (option (Some setting))) h = setting_in setting h
   line_in (Ok (enable reading)) h = reading_in h.0 reading h.1
   line_in (Ok go) h = tt
   line_in (Ok stop) h = tt
@@ -198,11 +247,12 @@ module _ (m : ContextForm) (epid : ℕ) (is : IsContextInBounds m) (small : epid
 expression_in : (f : Form) → HasWrittenParts f → IsExpressionInBounds f
 expression_in (Num z) h = h
 expression_in (Named variable) h = tt
+expression_in (Local name) h = tt
 expression_in (Prefixed op operand) h = expression_in operand h
 expression_in (Joined op left right) h = (expression_in left h.0, expression_in right h.1)
 expression_in (Compared op left right) h = tt
 
-written_text_in : (t : Text) → IsWrittenText t → IsTextInBounds t
+written_text_in : (t : TextForm) → IsWrittenText t → IsTextInBounds t
 written_text_in (Literal bytes) h = omega arith
 written_text_in (Variable variable) h = tt
 
@@ -213,11 +263,19 @@ statement_in (statement.stack n) h = h.1
 statement_in (statement.ustack n) h = h.1
 statement_in (statement.exit f) h = tt
 statement_in (statement.aggregate name keys call) h = tt
+statement_in (statement.assign name f) h = expression_in f h.value_written.parts
+statement_in (statement.draw name) h = tt
+statement_in (statement.speculate f) h = tt
+statement_in (statement.commit f) h = tt
+statement_in (statement.discard f) h = tt
 
--- a clause that can be written can be taken in a context within bounds
-pub can_be_taken : (m : ContextForm) (epid : ℕ) (clause : ClauseForm) → IsContextInBounds m → epid < 2 ^ 63
-    → IsWrittenClause clause → CanBeTaken (scene_at m epid) clause
-can_be_taken m epid clause is small h = record {
+-- a clause that can be written can be taken in a context within bounds, after a past within bounds
+pub can_be_taken : (m : ContextForm) (epid : ℕ) (past : TracingPast) (clause : ClauseForm) → IsContextInBounds m
+    → epid < 2 ^ 63 → AreLocalsInBounds past.locals → past.specs.nspec ≤ nspec_max → IsWrittenClause clause
+    → CanBeTaken (scene_at m epid) past clause
+can_be_taken m epid past clause is small locals few h = record {
   scene_in_bounds = scene_in m epid is small;
+  locals_in_bounds = locals;
+  few_identifiers = few;
   statements_in_bounds = all_weaker IsWrittenStatement IsStatementInBounds statement_in clause.statements h.stated;
 }

@@ -6,13 +6,13 @@ use Rattle.dt_ecb.specs.Ecbs.{EcbForm, of_probe}
 use Rattle.dt_ecb.specs.Forms.{form_of_ecb}
 use Rattle.dt_ecb.specs.declared.parts.Ecb.{Ecb}
 use Rattle.dt_lang.specs.Program.{ClauseForm}
-use Rattle.dt_record.specs.Layout.{layout_of, layout_size}
+use Rattle.dt_life.specs.Life.{attempt_size}
 use Rattle.dt_life.specs.Limits.{end_id}
 
 abbrev pub size_by : EcbForm → ℕ
-size_by ecb = layout_size (layout_of ecb.clause)
+size_by ecb = attempt_size ecb.clause
 
--- the bytes of one record of each of END's among ECBs
+-- the bytes of the records of END's among ECBs, one of each that attempts one
 abbrev pub end_sizes : List ClauseForm → List Ecb → ℕ
 end_sizes clauses ecbs = sum (map size_by (of_probe end_id (map (form_of_ecb clauses) ecbs)))
 

@@ -2,7 +2,7 @@
 use Rattle.std.proofs.Common.{◌≡◌, ◌≢◌, ℕ, zero, suc, ◌+◌, ◌<◌, ◌≤◌, ◌==◌, Bool, true, false, cond, List, [], ◌∷◌, ◌++◌}
 use Rattle.std.proofs.Common.{length, get_or, Some, map, refl, sym, ap, ◌∙◌, subst, ⊎_elim, arith}
 use Rattle.std.specs.Bool.{nat_lt}
-use Rattle.std.specs.List.{slice_get, slice_set, AllZip, flat_map, range_with_len}
+use Rattle.std.specs.List.{slice_get, slice_set, AllZip, range_with_len}
 use Rattle.std.specs.Option.{IfSome, option_map, option_to_list}
 use Rattle.std.proofs.lemmas.Bool.{cases_eq, cases_lt, eq-eqb, le-ltb, lt-ltb, ne_eqb}
 use Rattle.std.proofs.lemmas.List.{map-append}
@@ -11,98 +11,86 @@ use Rattle.dt_aggstore.specs.History as store
 use Rattle.dt_aggstore.specs.IsAt.{IsAt}
 use Rattle.dt_aggstore.specs.declared.key.Aggregation.{Aggregation}
 use Rattle.dt_aggstore.specs.declared.store.AggStore.{AggStore}
-use Rattle.dt_cred.specs.declared.account.Account.{Account}
-use Rattle.dt_ecb.specs.Shapes.{ShapeForm}
-use Rattle.dt_machine.specs.Registry.{Registry}
-use Rattle.dt_life.specs.Aggregations.{aggregation_of, contributions}
-use Rattle.dt_life.specs.Following.{where_taken}
-use Rattle.dt_life.specs.Life.{SetUp, ecbs_in, shapes_in, since_then, with_event}
-use Rattle.dt_life.specs.Stores.{given_in, given_on}
-use Rattle.dt_life.specs.Takings.{TracingEvent, truncated, is_end, Taking, context_at, taken_at}
-use Rattle.dt_life.specs.TracingSteps.{steps_by}
-use Rattle.dt_machine.specs.Context.{ContextForm}
-use Rattle.dt_life.specs.Uses.{AreGiven, given_and, given_then}
+use Rattle.dt_life.specs.Aggregations.{aggregation_of, contributions_of}
+use Rattle.dt_life.specs.Life.{SetUp, shapes_in}
+use Rattle.dt_life.specs.Stores.{given_after, given_on}
+use Rattle.dt_life.specs.Takings.{Taking, cpu_of}
+use Rattle.dt_life.specs.TracingSteps.{TracingStep, takes, reads, truncates}
+use Rattle.dt_life.specs.Uses.{AreGiven, given_then}
+use Rattle.dt_life.specs.laws.Buffers.{given_more}
 use Rattle.dt_life.specs.laws.Giving.{given_none, same_at}
 use Rattle.dt_life.specs.laws.Lists.{found_at, replaced}
 use Rattle.dt_life.specs.laws.Options.{if_some_map}
-use Rattle.dt_life.specs.laws.TracingSteps.{after_event, after_trunc}
-use Rattle.dt_life.specs.laws.Tracings.{IsFiring, given_more}
 
-abbrev given_of_size : ℕ → List store.Event → store.Past
-given_of_size size events = record { size = size; events = events }
+-- the past of a store, followed in another way
+followed : (past past' : ℕ → store.Past) (stores : List AggStore) → ((cpu : ℕ) → past cpu ≡ past' cpu) → AreGiven past stores
+    → AreGiven past' stores
+followed past past' stores same h = λ cpu. if_some_map _ _ (slice_get stores cpu) (λ st. same_at _ _ st (same cpu)) (h cpu)
 
-module _ (shapes : List ShapeForm) (pasts : ℕ → store.Past) (stores : List AggStore) (there : ℕ) (new : List Taking)
-    (at : AreGiven pasts stores) where
-  abbrev Wanted : ℕ → AggStore → Type 0
-  Wanted j st = IsAt (given_and shapes pasts (where_taken there new) j) st
+module _ (s : SetUp) (steps : List TracingStep) (stores : List AggStore) (at : AreGiven (given_after s steps) stores) where
+  -- a step that gives nothing
+  pub gave_none : (step : TracingStep) → ((cpu : ℕ) → given_on (shapes_in s) cpu step ≡ [])
+      → AreGiven (given_after s (steps ++ step ∷ [])) stores
+  gave_none step none =
+      followed (λ cpu. given_then (given_after s steps cpu) []) (given_after s (steps ++ step ∷ [])) stores
+      (λ cpu. ap (given_then (given_after s steps cpu)) (sym (none cpu)) ∙ sym (given_more s steps cpu step))
+      (λ cpu. if_some_map _ _ (slice_get stores cpu) (given_none (given_after s steps cpu)) (at cpu))
 
-  -- where nothing was taken
-  elsewhere : (j : ℕ) → j ≢ there → IfSome (slice_get stores j) (Wanted j)
-  elsewhere j ne =
-      let other : (there == j) ≡ false = ne_eqb there j (λ e. ne (sym e)) in
-      if_some_map _ _ (slice_get stores j)
-      (λ st h. subst (λ b. IsAt (given_then (pasts j) (contributions shapes (cond b new []))) st) (sym other)
-      (given_none (pasts j) st h))
-      (at j)
+  -- a processor's buffer was read
+  pub gave_read : (n : ℕ) → AreGiven (given_after s (steps ++ reads n ∷ [])) stores
+  gave_read n = gave_none (reads n) (λ cpu. refl)
 
-  -- where the ECBs were taken
-  pub gave_there : (p q : AggStore) → there < length stores → p ≡ get_or stores there p
-      → (IsAt (pasts there) p → IsAt (given_then (pasts there) (contributions shapes new)) q)
-      → AreGiven (given_and shapes pasts (where_taken there new)) (slice_set stores there q)
-  gave_there p q inside found gave =
-      let same : (there == there) ≡ true = eq-eqb there there refl in
-      replaced Wanted stores there q
-      (subst (λ b. IsAt (given_then (pasts there) (contributions shapes (cond b new []))) q) (sym same)
-      (gave (found_at (IsAt (pasts there)) stores there p inside found (at there))))
-      elsewhere
+  module _ (t : Taking) where
+    -- a taking gave nothing
+    pub gave_nothing : contributions_of (shapes_in s) t ≡ [] → AreGiven (given_after s (steps ++ takes t ∷ [])) stores
+    gave_nothing none = gave_none (takes t) (λ cpu. by_place (cpu_of t == cpu))
+      where
+        by_place : (b : Bool) → cond b (contributions_of (shapes_in s) t) [] ≡ []
+        by_place true = none
+        by_place false = refl
 
--- what is given at an event is what the set-up with it says
-pub grown : (account : Account) (registry : Registry) (s : SetUp) (event : TracingEvent) (m : ContextForm) → IsFiring event
-    → context_at account registry event ≡ Some m → (stores : List AggStore) (new : List Taking)
-    → new ≡ taken_at (is_end event) (ecbs_in account registry s) m
-    → AreGiven (given_and (shapes_in s) (given_in account registry s) (where_taken m.firing.cpu new)) stores
-    → AreGiven (given_in account registry (with_event s event)) stores
-grown account registry s event m fires at stores new is h = λ cpu.
-    if_some_map _ _ (slice_get stores cpu)
-    (λ st. same_at _ _ st
-    (ap (λ xs. given_and (shapes_in s) (given_in account registry s) (where_taken m.firing.cpu xs) cpu) is
-    ∙ ap (given_of_size s.options.aggsize) (sym (given_more account registry s event m fires at cpu))))
-    (h cpu)
+    abbrev Wanted : ℕ → AggStore → Type 0
+    Wanted cpu st = IsAt (given_after s (steps ++ takes t ∷ []) cpu) st
 
--- an event that gives nothing
-pub gave_none : (account : Account) (registry : Registry) (s : SetUp) (event : TracingEvent) (stores : List AggStore)
-    → ((cpu : ℕ)
-    → flat_map (given_on (shapes_in s) cpu) (steps_by account registry (ecbs_in account registry s) event) ≡ [])
-    → AreGiven (given_in account registry s) stores
-    → AreGiven (given_in account registry (with_event s event)) stores
-gave_none account registry s event stores none h = λ cpu.
-    if_some_map _ _ (slice_get stores cpu)
-    (λ st had. same_at _ _ st
-    (ap (given_then (given_in account registry s cpu)) (sym (none cpu))
-    ∙ ap (given_of_size s.options.aggsize)
-    (sym (after_event (given_on (shapes_in s) cpu) account registry (ecbs_in account registry s) s.since event)))
-    (given_none (given_in account registry s cpu) st had))
-    (h cpu)
+    placed : (cpu : ℕ) (b : Bool) → (cpu_of t == cpu) ≡ b
+        → given_then (given_after s steps cpu) (cond b (contributions_of (shapes_in s) t) [])
+        ≡ given_after s (steps ++ takes t ∷ []) cpu
+    placed cpu b e =
+        ap (λ x. given_then (given_after s steps cpu) (cond x (contributions_of (shapes_in s) t) [])) (sym e)
+        ∙ sym (given_more s steps cpu (takes t))
+
+    elsewhere : (cpu : ℕ) → cpu ≢ cpu_of t → IfSome (slice_get stores cpu) (Wanted cpu)
+    elsewhere cpu ne =
+        if_some_map _ _ (slice_get stores cpu)
+        (λ st h. same_at _ _ st (placed cpu false (ne_eqb (cpu_of t) cpu (λ e. ne (sym e))))
+        (given_none (given_after s steps cpu) st h)) (at cpu)
+
+    -- a taking gave to the store of its processor
+    pub gave_there : (p q : AggStore) → cpu_of t < length stores → p ≡ get_or stores (cpu_of t) p
+        → (IsAt (given_after s steps (cpu_of t)) p
+        → IsAt (given_then (given_after s steps (cpu_of t)) (contributions_of (shapes_in s) t)) q)
+        → AreGiven (given_after s (steps ++ takes t ∷ [])) (slice_set stores (cpu_of t) q)
+    gave_there p q inside found gave =
+        replaced Wanted stores (cpu_of t) q
+        (same_at _ _ q (placed (cpu_of t) true (eq-eqb (cpu_of t) (cpu_of t) refl))
+        (gave (found_at (IsAt (given_after s steps (cpu_of t))) stores (cpu_of t) p inside found (at (cpu_of t)))))
+        elsewhere
 
 -- an aggregation was truncated
-pub trunc_given : (account : Account) (registry : Registry) (s : SetUp) (name : List ℕ) (aggregation : Aggregation)
-    (stores : List AggStore) → aggregation_of (shapes_in s) name ≡ Some aggregation
-    → AreGiven (λ cpu. store.after (given_in account registry s cpu) (store.truncated aggregation)) stores
-    → AreGiven (given_in account registry (with_event s (truncated name))) stores
-trunc_given account registry s name aggregation stores is h = λ cpu.
-    if_some_map _ _ (slice_get stores cpu)
-    (λ st. same_at _ _ st
-    (ap (λ o. given_then (given_in account registry s cpu) (option_to_list (option_map store.truncated o))) (sym is)
-    ∙ ap (given_of_size s.options.aggsize)
-    (sym (after_trunc (given_on (shapes_in s) cpu) account registry (ecbs_in account registry s) s.since name))))
-    (h cpu)
+pub trunc_given : (s : SetUp) (steps : List TracingStep) (name : List ℕ) (aggregation : Aggregation) (stores : List AggStore)
+    → aggregation_of (shapes_in s) name ≡ Some aggregation
+    → AreGiven (λ cpu. store.after (given_after s steps cpu) (store.truncated aggregation)) stores
+    → AreGiven (given_after s (steps ++ truncates name ∷ [])) stores
+trunc_given s steps name aggregation stores is h =
+    followed _ _ stores
+    (λ cpu. ap (λ o. given_then (given_after s steps cpu) (option_to_list (option_map store.truncated o))) (sym is)
+    ∙ sym (given_more s steps cpu (truncates name)))
+    h
 
--- new stores are those of a set-up to which nothing has happened
-pub new_given : (account : Account) (registry : Registry) (s : SetUp) (size : ℕ) (stores : List AggStore)
-    → size ≡ s.options.aggsize → AreGiven (λ cpu. store.new_past size) stores
-    → AreGiven (given_in account registry (since_then s [])) stores
-new_given account registry s size stores same h = λ cpu.
-    if_some_map _ _ (slice_get stores cpu) (λ st. same_at _ _ st (ap store.new_past same)) (h cpu)
+-- new stores are those before any step
+pub new_given : (s : SetUp) (size : ℕ) (stores : List AggStore) → size ≡ s.options.aggsize
+    → AreGiven (λ cpu. store.new_past size) stores → AreGiven (given_after s []) stores
+new_given s size stores same h = followed _ _ stores (λ cpu. ap store.new_past same) h
 
 -- the stores, one for each processor
 zipped : (pasts : ℕ → store.Past) (stores : List AggStore) (from : ℕ)

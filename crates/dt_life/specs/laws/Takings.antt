@@ -1,10 +1,10 @@
 -- What takings add to faults, and where they exit.
-use Rattle.std.proofs.Common.{◌≡◌, ℕ, ℤ, zero, suc, ◌+◌, ◌<◌, get_or, take, drop, Bool, true, false, List, [], ◌∷◌}
+use Rattle.std.proofs.Common.{◌≡◌, ℕ, ℤ, zero, suc, ◌+◌, ◌<◌, get_or, Bool, true, false, List, [], ◌∷◌}
 use Rattle.std.proofs.Common.{◌++◌, length, filter, if◌then◌else◌, Option, Some, None, map, refl, sym, ap, subst, ◌∙◌}
 use Rattle.std.proofs.Common.{arith}
 use Rattle.std.specs.List.{All}
 use Rattle.std.specs.Option.{is_some, option_or}
-use Rattle.std.proofs.lemmas.List.{length-append, map-append, take_more}
+use Rattle.std.proofs.lemmas.List.{length-append}
 use Rattle.dt_lang.specs.Program.{form_of_clause}
 use Rattle.dt_program.specs.declared.clause.Clause.{Clause}
 use Rattle.dt_ecb.specs.Forms.{no_clause}
@@ -24,15 +24,8 @@ filter-append p (x ∷ xs) ys =
 
 pub faults-append : (xs ys : List Taking) → faults (xs ++ ys) ≡ faults xs + faults ys
 faults-append xs ys =
-    ap length (filter-append (λ (t : Taking). is_abandoned t.outcome) xs ys)
-    ∙ length-append (filter (λ (t : Taking). is_abandoned t.outcome) xs) (filter (λ (t : Taking). is_abandoned t.outcome) ys)
-
--- the takings of a row, one ECB further
-pub row_more : (f : Ecb → Taking) (row : List Ecb) (i : ℕ) (ecb : Ecb) → i < length row → ecb ≡ get_or row i ecb
-    → map f (take (i + 1) row) ≡ map f (take i row) ++ f ecb ∷ []
-row_more f row i ecb inside is =
-    ap (map f) (take_more row i ecb inside) ∙ map-append f (take i row) (get_or row i ecb ∷ [])
-    ∙ ap (λ e. map f (take i row) ++ f e ∷ []) (sym is)
+    ap length (filter-append (λ (t : Taking). is_abandoned t.taken.outcome) xs ys)
+    ∙ length-append (filter (λ (t : Taking). is_abandoned t.taken.outcome) xs) (filter (λ (t : Taking). is_abandoned t.taken.outcome) ys)
 
 -- the clause of the ECB at a place is there
 pub there_at : (row : List Ecb) (i : ℕ) (ecb : Ecb) (count : ℕ) → All (λ (e : Ecb). e.clause < count) row
@@ -86,7 +79,7 @@ exit_there : (o : Option ℤ) (p : Option ℤ) → is_some o ≡ true → option
 exit_there None p e = cc
 exit_there (Some status) p e = refl
 
--- the first exit of a row whose first ECBs don't exit
+-- the first exit, where those before it don't exit
 pub first_here : (xs : List Taking) (y : Taking) (ys : List Taking) → first_exit xs ≡ None
     → is_some (exit_of y) ≡ true → first_exit (xs ++ y ∷ ys) ≡ exit_of y
 first_here xs y ys e exits = first_exit-append xs (y ∷ ys) e ∙ exit_there (exit_of y) (first_exit ys) exits
@@ -98,24 +91,3 @@ no_exit (Some status) p e n = cc
 pub none_more : (xs : List Taking) (y : Taking) → first_exit xs ≡ None → is_some (exit_of y) ≡ false
     → first_exit (xs ++ y ∷ []) ≡ None
 none_more xs y e stays = first_exit-append xs (y ∷ []) e ∙ no_exit (exit_of y) None stays refl
-
--- a row, cut at an ECB
-pub row_split : (f : Ecb → Taking) (row : List Ecb) (i : ℕ) (ecb : Ecb) → i < length row → ecb ≡ get_or row i ecb
-    → map f row ≡ map f (take i row) ++ f ecb ∷ map f (drop (suc i) row)
-row_split f [] i ecb inside is = absurd (omega arith)
-row_split f (first ∷ row) zero ecb inside is = ap (λ e. f e ∷ map f row) (sym is)
-row_split f (first ∷ row) (suc i) ecb inside is = ap (λ rest. f first ∷ rest) (row_split f row i ecb (omega arith) is)
-
--- the first exit of a row
-pub exit_found : (f : Ecb → Taking) (row : List Ecb) (i : ℕ) (ecb : Ecb) → i < length row → ecb ≡ get_or row i ecb
-    → first_exit (map f (take i row)) ≡ None → is_some (exit_of (f ecb)) ≡ true
-    → exit_of (f ecb) ≡ first_exit (map f row)
-exit_found f row i ecb inside is stays exits =
-    sym (ap first_exit (row_split f row i ecb inside is)
-    ∙ first_here (map f (take i row)) (f ecb) (map f (drop (suc i) row)) stays exits)
-
-pub stays_more : (f : Ecb → Taking) (row : List Ecb) (i : ℕ) (ecb : Ecb) → i < length row → ecb ≡ get_or row i ecb
-    → first_exit (map f (take i row)) ≡ None → is_some (exit_of (f ecb)) ≡ false
-    → first_exit (map f (take (i + 1) row)) ≡ None
-stays_more f row i ecb inside is stays one =
-    ap first_exit (row_more f row i ecb inside is) ∙ none_more (map f (take i row)) (f ecb) stays one

@@ -1,100 +1,111 @@
--- The steps of one event more, and what those of a firing bring to each processor.
-use Rattle.std.proofs.Common.{◌≡◌, ℕ, ◌==◌, Bool, true, false, cond, List, [], ◌∷◌, ◌++◌, map, refl, ap, ◌∙◌}
-use Rattle.std.specs.List.{AllByRecursion, flat_map}
+-- What one step more adds to what is read off steps, and how the takings of ECBs go on.
+use Rattle.std.proofs.Common.{◌≡◌, Bool, true, false, cond, List, [], ◌∷◌, ◌++◌, map, refl, sym, ap, subst, ◌∙◌, append_assoc}
+use Rattle.std.specs.List.{AllByRecursion, flat_map, fold}
 use Rattle.std.specs.Option.{is_some}
-use Rattle.std.proofs.lemmas.List.{append-nil}
-use Rattle.std.proofs.lemmas.Grind.{flat_map-append}
-use Rattle.dt_cred.specs.declared.account.Account.{Account}
-use Rattle.dt_ecb.specs.Ecbs.{EcbForm, of_probe}
-use Rattle.dt_ecb.specs.Shapes.{ShapeForm}
+use Rattle.std.proofs.lemmas.List.{append-nil, map-append}
+use Rattle.std.proofs.lemmas.Grind.{flat_map-append, fold-append}
+use Rattle.dt_ecb.specs.Ecbs.{EcbForm}
 use Rattle.dt_machine.specs.Context.{ContextForm}
-use Rattle.dt_machine.specs.Registry.{Registry}
-use Rattle.dt_life.specs.Aggregations.{contributions, contributions_of}
-use Rattle.dt_life.specs.Buffers.{attempt_of, attempts_of, comes_by}
-use Rattle.dt_life.specs.Following.{where_taken}
-use Rattle.dt_life.specs.Stores.{given_on}
-use Rattle.dt_life.specs.Takings.{TracingEvent, snapped, truncated, closed, Taking, exit_of, taken_at, taking_of, through_exit}
-use Rattle.dt_life.specs.TracingSteps.{TracingStep, takes, reads, truncates, cpu_of, steps_by, steps_since, taken_on}
+use Rattle.dt_life.specs.Options.{OptionsForm}
+use Rattle.dt_life.specs.Takings.{Taking, exit_of, taking_of, through_exit}
+use Rattle.dt_life.specs.TracingSteps.{TracingStep, takes, past_of_steps, steps_and, taken_in_turn, takings_of}
 
--- what is read off the steps of one event more
-module _ {X : Type 0} (f : TracingStep → List X) (account : Account) (registry : Registry) (ecbs : List EcbForm)
-    (events : List TracingEvent) where
-  pub after_event : (event : TracingEvent) → flat_map f (steps_since account registry ecbs (event ∷ events))
-      ≡ flat_map f (steps_since account registry ecbs events) ++ flat_map f (steps_by account registry ecbs event)
-  after_event event = flat_map-append f (steps_since account registry ecbs events) (steps_by account registry ecbs event)
+-- what is read off one step more
+pub one_more : {X : Type 0} (f : TracingStep → List X) (steps : List TracingStep) (step : TracingStep)
+    → flat_map f (steps ++ step ∷ []) ≡ flat_map f steps ++ f step
+one_more f steps step = flat_map-append f steps (step ∷ []) ∙ ap (λ xs. flat_map f steps ++ xs) (append-nil (f step))
 
-  pub after_snap : (cpu : ℕ) → flat_map f (steps_since account registry ecbs (snapped cpu ∷ events))
-      ≡ flat_map f (steps_since account registry ecbs events) ++ f (reads cpu)
-  after_snap cpu =
-      after_event (snapped cpu)
-      ∙ ap (λ xs. flat_map f (steps_since account registry ecbs events) ++ xs) (append-nil (f (reads cpu)))
+pub steps_none : (steps : List TracingStep) → steps_and steps [] ≡ steps
+steps_none steps = append-nil steps
 
-  pub after_trunc : (name : List ℕ) → flat_map f (steps_since account registry ecbs (truncated name ∷ events))
-      ≡ flat_map f (steps_since account registry ecbs events) ++ f (truncates name)
-  after_trunc name =
-      after_event (truncated name)
-      ∙ ap (λ xs. flat_map f (steps_since account registry ecbs events) ++ xs) (append-nil (f (truncates name)))
+pub steps_both : (steps : List TracingStep) (done new : List Taking)
+    → steps_and (steps_and steps done) new ≡ steps_and steps (done ++ new)
+steps_both steps done new =
+    append_assoc steps (map takes done) (map takes new) ∙ ap (λ xs. steps ++ xs) (sym (map-append takes done new))
 
-  pub after_close : flat_map f (steps_since account registry ecbs (closed ∷ events))
-      ≡ flat_map f (steps_since account registry ecbs events)
-  after_close = after_event closed ∙ append-nil (flat_map f (steps_since account registry ecbs events))
+pub steps_first : (steps : List TracingStep) (t : Taking) (later : List Taking)
+    → steps_and steps (t ∷ later) ≡ steps_and (steps ++ takes t ∷ []) later
+steps_first [] t later = refl
+steps_first (step ∷ steps) t later = ap (λ rest. step ∷ rest) (steps_first steps t later)
 
--- all are taken on this processor
-abbrev pub AllOn : ℕ → List Taking → Type 0
-AllOn there takings = AllByRecursion (λ t. cpu_of t ≡ there) takings
+module _ (options : OptionsForm) (in_end : Bool) (context : ContextForm) where
+  -- what is taken after steps by an ECB
+  abbrev next : List TracingStep → EcbForm → Taking
+  next steps ecb = taking_of in_end (past_of_steps options steps) context ecb
 
-mapped_on : (in_end : Bool) (m : ContextForm) (ecbs : List EcbForm) → AllOn m.firing.cpu (map (taking_of in_end m) ecbs)
-mapped_on in_end m [] = tt
-mapped_on in_end m (ecb ∷ ecbs) = (refl, mapped_on in_end m ecbs)
+  abbrev after_these : List TracingStep → List Taking → EcbForm → List Taking
+  after_these steps done ecb = done ++ next (steps_and steps done) ecb ∷ []
 
-through_on : (there : ℕ) (takings : List Taking) → AllOn there takings → AllOn there (through_exit takings)
-through_on there [] h = tt
-through_on there (t ∷ later) h = (h.0, stop_or (is_some (exit_of t)) (through_on there later h.1))
-  where
-    stop_or : (b : Bool) → AllOn there (through_exit later) → AllOn there (cond b [] (through_exit later))
-    stop_or true k = tt
-    stop_or false k = k
+  -- the takings of one ECB more
+  pub in_turn_more : (steps : List TracingStep) (ecbs : List EcbForm) (ecb : EcbForm)
+      → taken_in_turn options steps in_end context (ecbs ++ ecb ∷ [])
+      ≡ taken_in_turn options steps in_end context ecbs
+      ++ taking_of in_end (past_of_steps options (steps_and steps (taken_in_turn options steps in_end context ecbs)))
+      context ecb ∷ []
+  in_turn_more steps ecbs ecb = fold-append (after_these steps) [] ecbs (ecb ∷ [])
 
--- what is taken in a context is taken on its processor
-pub taken_there : (in_end : Bool) (ecbs : List EcbForm) (m : ContextForm) → AllOn m.firing.cpu (taken_at in_end ecbs m)
-taken_there true ecbs m = mapped_on true m (of_probe m.firing.probe ecbs)
-taken_there false ecbs m =
-    through_on m.firing.cpu (map (taking_of false m) (of_probe m.firing.probe ecbs))
-    (mapped_on false m (of_probe m.firing.probe ecbs))
+  -- after some takings, those of further ECBs are the ones after the steps and these
+  in_turn_from : (steps : List TracingStep) (done : List Taking) (ecbs : List EcbForm)
+      → fold (after_these steps) done ecbs
+      ≡ done ++ taken_in_turn options (steps_and steps done) in_end context ecbs
+  in_turn_from steps done [] = sym (append-nil done)
+  in_turn_from steps done (ecb ∷ ecbs) =
+      let here = next (steps_and steps done) ecb in
+      in_turn_from steps (done ++ here ∷ []) ecbs
+      ∙ append_assoc done (here ∷ []) _
+      ∙ ap (λ xs. done ++ here ∷ taken_in_turn options xs in_end context ecbs) (sym (steps_both steps done (here ∷ [])))
+      ∙ ap (λ xs. done ++ xs) (sym (in_turn_from (steps_and steps done) (here ∷ []) ecbs))
+      ∙ ap (λ xs. done ++ fold (after_these (steps_and steps done)) (next xs ecb ∷ []) ecbs)
+      (sym (steps_none (steps_and steps done)))
 
--- what is read off takings on one processor, where it is read off each where it was taken
-module _ {X : Type 0} (f : Taking → List X) (g : TracingStep → List X) (cpu : ℕ)
-    (is : (t : Taking) → g (takes t) ≡ cond (cpu_of t == cpu) (f t) []) (there : ℕ) where
-  by_place : (b : Bool) → (there == cpu) ≡ b → (takings : List Taking) → AllOn there takings
-      → flat_map g (map takes takings) ≡ flat_map f (cond b takings [])
-  by_place true e [] h = refl
-  by_place true e (t ∷ later) h =
-      ap (λ xs. xs ++ flat_map g (map takes later))
-      (is t ∙ ap (λ n. cond (n == cpu) (f t) []) h.0 ∙ ap (λ b. cond b (f t) []) e)
-      ∙ ap (λ rest. f t ++ rest) (by_place true e later h.1)
-  by_place false e [] h = refl
-  by_place false e (t ∷ later) h =
-      ap (λ xs. xs ++ flat_map g (map takes later))
-      (is t ∙ ap (λ n. cond (n == cpu) (f t) []) h.0 ∙ ap (λ b. cond b (f t) []) e)
-      ∙ by_place false e later h.1
+  -- the first ECB's, and then those of the others
+  pub in_turn_first : (steps : List TracingStep) (ecb : EcbForm) (ecbs : List EcbForm)
+      → taken_in_turn options steps in_end context (ecb ∷ ecbs)
+      ≡ taking_of in_end (past_of_steps options steps) context ecb
+      ∷ taken_in_turn options
+      (steps ++ takes (taking_of in_end (past_of_steps options steps) context ecb) ∷ []) in_end context ecbs
+  in_turn_first steps ecb ecbs =
+      ap (λ xs. fold (after_these steps) (next xs ecb ∷ []) ecbs) (steps_none steps)
+      ∙ in_turn_from steps (next steps ecb ∷ []) ecbs
 
-  of_takings : (takings : List Taking) → AllOn there takings
-      → flat_map g (map takes takings) ≡ flat_map f (where_taken there takings cpu)
-  of_takings takings h = by_place (there == cpu) refl takings h
+  -- those of the first ECBs, and then those of the others
+  pub in_turn-append : (steps : List TracingStep) (xs ys : List EcbForm)
+      → taken_in_turn options steps in_end context (xs ++ ys)
+      ≡ taken_in_turn options steps in_end context xs
+      ++ taken_in_turn options (steps_and steps (taken_in_turn options steps in_end context xs)) in_end context ys
+  in_turn-append steps xs ys =
+      fold-append (after_these steps) [] xs ys
+      ∙ in_turn_from steps (taken_in_turn options steps in_end context xs) ys
 
-singles : (takings : List Taking) → flat_map (λ t. t ∷ []) takings ≡ takings
-singles [] = refl
-singles (t ∷ later) = ap (λ rest. t ∷ rest) (singles later)
+  -- What holds of steps, and of them with one more taking of an ECB, holds of them with all that is taken.
+  module _ (R : List TracingStep → Type 0) (Q : EcbForm → Type 0)
+      (step : (steps : List TracingStep) (ecb : EcbForm) → R steps → Q ecb
+      → R (steps ++ takes (taking_of in_end (past_of_steps options steps) context ecb) ∷ [])) where
+    none_taken : (b : Bool) (steps : List TracingStep) → R steps → R (steps_and steps (cond b [] []))
+    none_taken true steps h = subst R (sym (steps_none steps)) h
+    none_taken false steps h = subst R (sym (steps_none steps)) h
 
-module _ (cpu there : ℕ) (takings : List Taking) (h : AllOn there takings) where
-  pub taken_of : flat_map (taken_on cpu) (map takes takings) ≡ where_taken there takings cpu
-  taken_of =
-      of_takings (λ t. t ∷ []) (taken_on cpu) cpu (λ t. refl) there takings h
-      ∙ singles (where_taken there takings cpu)
+    abbrev through : Bool → List Taking → List Taking
+    through b takings = cond b takings (through_exit takings)
 
-  pub come_of : flat_map (comes_by cpu) (map takes takings) ≡ attempts_of (where_taken there takings cpu)
-  come_of = of_takings attempt_of (comes_by cpu) cpu (λ t. refl) there takings h
+    -- a taking, and then the others, unless it exits
+    with_first : (b exits : Bool) (steps : List TracingStep) (t : Taking) (later : List Taking) → is_some (exit_of t) ≡ exits
+        → R (steps ++ takes t ∷ []) → R (steps_and (steps ++ takes t ∷ []) (through b later))
+        → R (steps_and steps (through b (t ∷ later)))
+    with_first true exits steps t later e one all = subst R (sym (steps_first steps t later)) all
+    with_first false true steps t later e one all =
+        subst (λ x. R (steps_and steps (t ∷ cond x [] (through_exit later)))) (sym e) one
+    with_first false false steps t later e one all =
+        subst (λ x. R (steps_and steps (t ∷ cond x [] (through_exit later)))) (sym e)
+        (subst R (sym (steps_first steps t (through_exit later))) all)
 
-  pub given_of : (shapes : List ShapeForm)
-      → flat_map (given_on shapes cpu) (map takes takings) ≡ contributions shapes (where_taken there takings cpu)
-  given_of shapes = of_takings (contributions_of shapes) (given_on shapes cpu) cpu (λ t. refl) there takings h
+    pub along : (ecbs : List EcbForm) → AllByRecursion Q ecbs → (steps : List TracingStep) → R steps
+        → R (steps_and steps (takings_of options steps in_end context ecbs))
+    along [] are steps h = none_taken in_end steps h
+    along (ecb ∷ ecbs) are steps h =
+        let t = next steps ecb in
+        let one = step steps ecb h are.0 in
+        subst (λ takings. R (steps_and steps (through in_end takings))) (sym (in_turn_first steps ecb ecbs))
+        (with_first in_end (is_some (exit_of t)) steps t
+        (taken_in_turn options (steps ++ takes t ∷ []) in_end context ecbs) refl one
+        (along ecbs are.1 (steps ++ takes t ∷ []) one))

@@ -7,7 +7,7 @@ use Rattle.dt_legal.specs.Rows.{IsGoAfter, IsLegalRow, life_of_row, line_form_of
 use Rattle.dt_legal.specs.laws.Beginning.{past_of_last}
 use Rattle.dt_life.specs.Ask.{Ask, option, enable, go, stop, snap, agg, trunc, status, list, describe, close}
 use Rattle.dt_life.specs.Ending.{phase_by_item}
-use Rattle.dt_life.specs.Life.{Item, SetUp, after_item, asked, ecbs, end_by, has_room, is_inactive, is_stopped, phase, phase_of, set_up, since_then, with_event}
+use Rattle.dt_life.specs.Life.{Item, SetUp, after_item, asked, ecbs, end_by, has_room, is_inactive, is_stopped, phase, phase_of, set_up, since_then}
 use Rattle.dt_life.specs.Life.{fired as fired_item}
 use Rattle.dt_life.specs.Takings.{began, seen}
 use Rattle.dt_life.specs.declared.phase.End.{End}
@@ -46,7 +46,7 @@ module _ (account : Account) (contents : Contents) where
   by_item s (asked (Ok (list desc))) = refl
   by_item s (asked (Ok (describe epid))) = refl
   by_item s (asked (Ok close)) = refl
-  by_item s (fired_item firing) = by_end (end_by account contents.registry (with_event s (seen firing)) (seen firing))
+  by_item s (fired_item firing) = by_end (end_by account contents.registry s (seen firing))
 
   begun_on : (s : SetUp) (item : Item) → is_inactive (phase_of s) ≡ false
       → is_inactive (phase_of (after_item account contents.registry s item)) ≡ false
@@ -104,7 +104,7 @@ module _ (account : Account) (contents : Contents) where
       ap (λ (life : List Item). is_inactive (phase account contents.registry life)) (lived_line row item mine)
       ∙ ap (λ (said : Result Ask Refusal). is_inactive (phase account contents.registry (asked said ∷ Lived row))) accepted.3
       ∙ ap is_inactive (beginning account contents.registry (set_up account contents.registry (Lived row)) accepted.1 accepted.2)
-      ∙ by_end (end_by account contents.registry (with_event (since_then (set_up account contents.registry (Lived row)) []) began) began)
+      ∙ by_end (end_by account contents.registry (since_then (set_up account contents.registry (Lived row)) []) began)
 
   -- and has the ECBs that were enabled before
   pub go_has : (row : List TrailItem) (item : TrailItem) → whose item ≡ 0 → IsGoAfter account contents row item

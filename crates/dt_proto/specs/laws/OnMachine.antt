@@ -1,27 +1,56 @@
 -- The life of a view that a machine can bring is a life on that machine.
-use Rattle.std.proofs.Common.{◌≡◌, ℕ, Bool, true, false, cond, List, [], ◌∷◌, Option, Some, None, Result, Ok, Err, sym, subst}
+use Rattle.std.proofs.Common.{◌≡◌, ℕ, Bool, true, false, cond, List, [], ◌∷◌, Option, Some, None, Result, Ok, Err, refl, sym, subst}
 use Rattle.std.specs.List.{AllByRecursion}
-use Rattle.std.specs.Option.{option_and_then}
+use Rattle.std.specs.Prelude.{codes, bytes_eq}
+use Rattle.std.specs.Option.{option_and_then, option_map, IfSome}
 use Rattle.dt_cred.specs.Rights.{has_dtrace}
 use Rattle.dt_cred.specs.declared.account.Account.{Account}
 use Rattle.dt_life.specs.Ask.{is_read}
 use Rattle.dt_life.specs.Life.{Item, asked, fired, is_over}
-use Rattle.dt_life.specs.Scenes.{IsLifeOn, MayBeAsked, MayReach}
+use Rattle.dt_life.specs.Options.{Setting, number_set, policy_of, size, policy, entries, history, variables, speculations, parts}
+use Rattle.dt_life.specs.Scenes.{IsLifeOn, MayBeAsked, MayBeSet, MayReach}
 use Rattle.dt_life.specs.Tests.{is_seen}
 use Rattle.dt_life.specs.declared.refusal.Refusal.{Refusal}
 use Rattle.dt_machine.specs.Registry.{Contents, Registry, account_of}
 use Rattle.dt_proto.specs.Alone.{Reached, own_line, firing_made, IsLifeOf}
 use Rattle.dt_proto.specs.Brought.{IsBrought}
 use Rattle.dt_proto.specs.Line.{Request, to_set, to_enable, to_go, to_stop, to_snap, to_agg, to_trunc, to_status}
-use Rattle.dt_proto.specs.Line.{to_list, to_describe, to_close, ask_in, asked_by, asked_or_refused, requested}
+use Rattle.dt_proto.specs.Line.{to_list, to_describe, to_close, ask_in, asked_by, asked_or_refused, requested, setting_by}
+use Rattle.dt_proto.specs.Line.{GivenValue, of_number, of_text, of_another}
 use Rattle.dt_proto.specs.Lines.{LineForm, short_line, long_line}
 use Rattle.dt_proto.specs.Session.{session_account}
 use Rattle.dt_proto.specs.Views.{life_of}
 use Rattle.dt_proto.specs.laws.Views.{one_life}
 
+-- what is set is a policy, or what a name and a number set
+settable : (name : List ℕ) (n : ℕ) (setting : Setting) → number_set name n ≡ Some setting → MayBeSet setting
+settable name n (size m) e = (name, n, e)
+settable name n (policy p) e = tt
+settable name n (entries m) e = (name, n, e)
+settable name n (history m) e = (name, n, e)
+settable name n (variables m) e = (name, n, e)
+settable name n (speculations m) e = (name, n, e)
+settable name n (parts m) e = (name, n, e)
+
+by_number : (name : List ℕ) (n : ℕ) (o : Option Setting) → number_set name n ≡ o → IfSome o MayBeSet
+by_number name n None e = tt
+by_number name n (Some setting) e = settable name n setting e
+
+where_mapped : {A B : Type 0} (P : B → Type 0) (f : A → B) → ((a : A) → P (f a)) → (b : Bool) (o : Option A)
+    → IfSome (cond b (option_map f o) None) P
+where_mapped P f all true None = tt
+where_mapped P f all true (Some a) = all a
+where_mapped P f all false o = tt
+
+set_may : (name : List ℕ) (value : GivenValue) → IfSome (setting_by name value) MayBeSet
+set_may name (of_number n) = by_number name n (number_set name n) refl
+set_may name (of_text word) =
+    where_mapped MayBeSet policy (λ p. tt) (bytes_eq name (codes "bufpolicy")) (policy_of word)
+set_may name of_another = tt
+
 -- what is read of a program is the reading of its text
 request_may : (request : Request) → MayBeAsked (Ok (asked_by request))
-request_may (to_set name value) = tt
+request_may (to_set name value) = set_may name value
 request_may (to_enable text) = (text, is_read text)
 request_may to_go = tt
 request_may to_stop = tt

@@ -1,36 +1,39 @@
 -- What a clause leaves is a record of its layout.
-use Rattle.std.proofs.Common.{◌≡◌, ℕ, zero, suc, ◌+◌, ◌-◌, ◌*◌, ◌≤◌, Bool, true, false, List, [], ◌∷◌, ◌++◌}
+use Rattle.std.proofs.Common.{◌≡◌, ℕ, zero, suc, ◌+◌, ◌-◌, ◌*◌, ◌≤◌, Bool, true, false, cond, List, [], ◌∷◌, ◌++◌}
 use Rattle.std.proofs.Common.{Option, Some, None, ℤ, map, take, length, sum, replicate, refl, sym, ap, subst, ◌∙◌, arith}
 use Rattle.std.proofs.lemmas.Int.{int_wrap_fits}
 use Rattle.std.proofs.lemmas.List.{length-append, length-replicate, length-take-le}
 use Rattle.std.proofs.lemmas.Option.{slice_get-map}
 use Rattle.std.specs.Int.{w64, cast_unsigned}
 use Rattle.std.specs.List.{fold, flat_map, filter, AllByRecursion}
-use Rattle.std.specs.Option.{option_map, option_and_then, option_map_or}
-use Rattle.std.specs.Prelude.{if◌then◌else◌}
+use Rattle.std.specs.Option.{option_map, option_to_list}
+use Rattle.std.specs.Prelude.{if◌then◌else◌, zip}
 use Rattle.byteorder.specs.Endian.{big_bytes}
 use Rattle.byteorder.specs.Numbers.{length-bytes_high_first}
 use Rattle.dt_names.specs.Limits.{padded_size}
-use Rattle.dt_expr.specs.Operators.{holds}
 use Rattle.dt_expr.specs.Scene.{SceneForm, padded, text_bytes}
 use Rattle.dt_expr.specs.Value.{value}
 use Rattle.dt_expr.specs.declared.text.Text.{Text}
 use Rattle.dt_expr.specs.declared.text.Text.TheVariants.{Literal, Variable}
-use Rattle.dt_expr.specs.declared.text.Value.{Value}
 use Rattle.dt_expr.specs.declared.text.Value.TheVariants as val
 use Rattle.dt_program.specs.Clause.{ClauseForm, StatementForm}
 use Rattle.dt_program.specs.Clause as program
-use Rattle.dt_record.specs.Layout.{FieldForm, fields_of, field_size, layout_of, layout_size}
+use Rattle.dt_speculation.specs.Limits.{nspec_max}
+use Rattle.dt_record.specs.Layout.{FieldForm, field_of, fields_of, field_size, layout_of, layout_size}
 use Rattle.dt_record.specs.Layout as layout
+use Rattle.dt_record.specs.Pasts.{TracingPast}
 use Rattle.dt_record.specs.Split as split
 use Rattle.dt_record.specs.Split.{RecordedForm, RecordForm, AreFrames, FitsField, FitAll, IsFrame, IsRecordOf, IsSplit}
 use Rattle.dt_record.specs.Split.{recorded_bytes, record_bytes}
-use Rattle.dt_record.specs.Showing.{IsSceneInBounds, IsTextInBounds, IsStatementInBounds, CanBeTaken, ShowAll, IsRecordFrom, FitLayout}
-use Rattle.dt_record.specs.Showing.{IsLeftBy}
-use Rattle.dt_record.specs.Taking.{TakenForm, Effect, records, gives, exits, each, effect, recorded}
+use Rattle.dt_record.specs.Showing.{AreLocalsInBounds, IsSceneInBounds, IsTextInBounds, IsStatementInBounds, CanBeTaken}
+use Rattle.dt_record.specs.Showing.{ShowAll, IsRecordFrom, FitLayout, IsLeftBy, pasts_from}
+use Rattle.dt_record.specs.Taking.{TakenForm, Effect, records, exits, assigns, speculates, ends, committed, discarded}
+use Rattle.dt_record.specs.Taking.{assignment_in, draw_effect, each, effect, identifier, past_with, perform, recorded}
 use Rattle.dt_record.specs.Taking.{epid_bytes, number_bytes, value_bytes, argument_value, given, leaves_record}
-use Rattle.dt_record.specs.Taking.{is_recording, predicate_value, taken_of, abandoned, passed_over, leaves, taking}
+use Rattle.dt_record.specs.Taking.{is_recording, leaves, taking}
+use Rattle.dt_record.specs.laws.Bounds.{bounds_after}
 use Rattle.dt_record.specs.laws.Numbers.{value_fits}
+use Rattle.dt_record.specs.laws.Performing.{ArePerformed, all_performed, does_with, first_performed, gives_with, leaves_all}
 
 shift : (a : ℕ) (xs : List ℕ) → fold ◌+◌ a xs ≡ a + sum xs
 shift a [] = omega arith
@@ -85,18 +88,15 @@ record_long fields r fit =
     let rest = all-long fields r.values fit in
     omega (arith, front, four, rest)
 
--- what each of a list gives, taken apart
-pub parts : {B : Type 0} (o : Option B) (os : Option (List B)) (all : List B)
-    → option_and_then (λ y. option_map (λ ys. y ∷ ys) os) o ≡ Some all
-    → (y : B) × (ys : List B) × (o ≡ Some y) × (os ≡ Some ys) × (all ≡ y ∷ ys)
-parts None os all e = cc
-parts (Some y) None all e = cc
-parts (Some y) (Some ys) all e = (y, ys, refl, refl, cc)
+-- what it does puts nothing into the record
+abbrev pub RecordsNone : Effect → Type 0
+RecordsNone done = recorded done ≡ []
 
 -- what the effects of some statements put into a record
-record Put (scene : SceneForm) (statements : List StatementForm) (effects : List Effect) : Type 0 where
+record Put (scene : SceneForm) (past : TracingPast) (statements : List StatementForm) (effects : List Effect) : Type 0 where
   values : List RecordedForm
-  shown : ShowAll scene (filter is_recording statements) values
+  shown : ShowAll scene (filter (λ (one : TracingPast × StatementForm). is_recording one.1)
+      (zip (pasts_from past effects) statements)) values
   fit : FitAll (fields_of statements) values
   same : flat_map recorded_bytes values ≡ flat_map recorded effects
 
@@ -105,17 +105,6 @@ pub number_put : (o : Option ℤ) (done : Effect)
     → (z : ℤ) × (o ≡ Some z) × (done ≡ records (number_bytes z))
 number_put None done e = cc
 number_put (Some z) done e = (z, refl, cc)
-
-pub no_bytes_of_exit : (o : Option ℤ) (done : Effect) → option_map exits o ≡ Some done → recorded done ≡ []
-no_bytes_of_exit None done e = cc
-no_bytes_of_exit (Some z) done e = let is : done ≡ exits z = cc in ap recorded is
-
-pub no_bytes_of_use : (keys : Option (List Value)) (number : Option Value) (done : Effect)
-    → option_and_then (λ values. option_map (λ n. gives (values ++ n ∷ [])) number) keys ≡ Some done
-    → recorded done ≡ []
-no_bytes_of_use None number done e = cc
-no_bytes_of_use (Some values) None done e = cc
-no_bytes_of_use (Some values) (Some n) done e = let is : done ≡ gives (values ++ n ∷ []) = cc in ap recorded is
 
 text_short : (scene : SceneForm) → IsSceneInBounds scene → (t : Text) → IsTextInBounds t → length (text_bytes scene t) ≤ padded_size
 text_short scene is (Literal bytes) short = short
@@ -138,19 +127,39 @@ frames_put n list are few =
     record { many = length-take-le n list (omega (arith, long)); each = first_frames n list are.each }
 
 module _ (scene : SceneForm) (is : IsSceneInBounds scene) where
-  put : (statement : StatementForm) (statements : List StatementForm) (done : Effect) (effects : List Effect)
-      → IsStatementInBounds statement → effect scene statement ≡ Some done → Put scene statements effects
-      → Put scene (statement ∷ statements) (done ∷ effects)
-  put (program.trace (program.number f)) statements done effects right e rest =
-      let got = number_put (value scene f) done e in
+  -- the recording ones of statements that have these effects
+  abbrev Recording : TracingPast → List StatementForm → List Effect → List (TracingPast × StatementForm)
+  Recording past statements effects = filter (λ (one : TracingPast × StatementForm). is_recording one.1)
+      (zip (pasts_from past effects) statements)
+
+  -- a statement that records nothing
+  unrecorded : (past : TracingPast) (statement : StatementForm) (statements : List StatementForm) (done : Effect)
+      (effects : List Effect) → Put scene (past_with past (done ∷ [])) statements effects
+      → is_recording statement ≡ false → field_of statement ≡ None → recorded done ≡ []
+      → Put scene past (statement ∷ statements) (done ∷ effects)
+  unrecorded past statement statements done effects rest unshown fieldless nothing =
+      let others = Recording (past_with past (done ∷ [])) statements effects in
+      record {
+        values = rest.values;
+        shown = subst (λ b. ShowAll scene (cond b ((past, statement) ∷ others) others) rest.values) (sym unshown) rest.shown;
+        fit = subst (λ o. FitAll (option_to_list o ++ fields_of statements) rest.values) (sym fieldless) rest.fit;
+        same = rest.same ∙ ap (λ l. l ++ flat_map recorded effects) (sym nothing);
+      }
+
+  put : (past : TracingPast) (statement : StatementForm) (statements : List StatementForm) (done : Effect) (effects : List Effect)
+      → AreLocalsInBounds past.locals → IsStatementInBounds statement → effect scene past statement ≡ Some done
+      → Put scene (past_with past (done ∷ [])) statements effects
+      → Put scene past (statement ∷ statements) (done ∷ effects)
+  put past (program.trace (program.number f)) statements done effects within right e rest =
+      let got = number_put (value scene past.locals f) done e in
       record {
         values = split.number got.0 ∷ rest.values;
         shown = (got.1, rest.shown);
-        fit = (int_wrap_fits w64 got.0 (value_fits scene is f right got.0 got.1), rest.fit);
+        fit = (int_wrap_fits w64 got.0 (value_fits scene is past.locals within f right got.0 got.1), rest.fit);
         same = ap (λ l. number_bytes got.0 ++ l) rest.same
             ∙ ap (λ d. recorded d ++ flat_map recorded effects) (sym got.2);
       }
-  put (program.trace (program.text t)) statements done effects right e rest =
+  put past (program.trace (program.text t)) statements done effects within right e rest =
       let got : done ≡ records (padded (text_bytes scene t)) = cc in
       record {
         values = split.text (padded (text_bytes scene t)) ∷ rest.values;
@@ -159,7 +168,7 @@ module _ (scene : SceneForm) (is : IsSceneInBounds scene) where
         same = ap (λ l. padded (text_bytes scene t) ++ l) rest.same
             ∙ ap (λ d. recorded d ++ flat_map recorded effects) (sym got);
       }
-  put (program.stack n) statements done effects right e rest =
+  put past (program.stack n) statements done effects within right e rest =
       let list = take n scene.firing.kstack in
       let got : done ≡ records (flat_map (big_bytes 8) list) = cc in
       record {
@@ -169,7 +178,7 @@ module _ (scene : SceneForm) (is : IsSceneInBounds scene) where
         same = ap (λ l. flat_map (big_bytes 8) list ++ l) rest.same
             ∙ ap (λ d. recorded d ++ flat_map recorded effects) (sym got);
       }
-  put (program.ustack n) statements done effects right e rest =
+  put past (program.ustack n) statements done effects within right e rest =
       let list = take n scene.firing.ustack in
       let got : done ≡ records (flat_map (big_bytes 8) list) = cc in
       record {
@@ -179,95 +188,91 @@ module _ (scene : SceneForm) (is : IsSceneInBounds scene) where
         same = ap (λ l. flat_map (big_bytes 8) list ++ l) rest.same
             ∙ ap (λ d. recorded d ++ flat_map recorded effects) (sym got);
       }
-  put (program.exit f) statements done effects right e rest =
-      record {
-        values = rest.values;
-        shown = rest.shown;
-        fit = rest.fit;
-        same = rest.same ∙ ap (λ l. l ++ flat_map recorded effects) (sym (no_bytes_of_exit (value scene f) done e));
-      }
-  put (program.aggregate name keys call) statements done effects right e rest =
-      record {
-        values = rest.values;
-        shown = rest.shown;
-        fit = rest.fit;
-        same = rest.same
-            ∙ ap (λ l. l ++ flat_map recorded effects)
-            (sym (no_bytes_of_use (each (argument_value scene) keys) (given scene call) done e));
-      }
+  put past (program.exit f) statements done effects within right e rest =
+      unrecorded past (program.exit f) statements done effects rest refl refl
+      (does_with RecordsNone (value scene past.locals f) exits done (λ z. refl) e)
+  put past (program.aggregate name keys call) statements done effects within right e rest =
+      unrecorded past (program.aggregate name keys call) statements done effects rest refl refl
+      (gives_with RecordsNone (each (argument_value scene past.locals) keys)
+      (given scene past.locals call) done (λ values. refl) e)
+  put past (program.assign name f) statements done effects within right e rest =
+      unrecorded past (program.assign name f) statements done effects rest refl refl
+      (does_with RecordsNone (value scene past.locals f) (λ z. assigns (assignment_in scene name z)) done (λ z. refl) e)
+  put past (program.draw name) statements done effects within right e rest =
+      unrecorded past (program.draw name) statements done effects rest refl refl
+      (let got : done ≡ draw_effect scene past name = cc in ap recorded got)
+  put past (program.speculate f) statements done effects within right e rest =
+      unrecorded past (program.speculate f) statements done effects rest refl refl
+      (does_with RecordsNone (value scene past.locals f) (λ z. speculates (identifier z)) done (λ z. refl) e)
+  put past (program.commit f) statements done effects within right e rest =
+      unrecorded past (program.commit f) statements done effects rest refl refl
+      (does_with RecordsNone (value scene past.locals f) (λ z. ends (committed (identifier z))) done (λ z. refl) e)
+  put past (program.discard f) statements done effects within right e rest =
+      unrecorded past (program.discard f) statements done effects rest refl refl
+      (does_with RecordsNone (value scene past.locals f) (λ z. ends (discarded (identifier z))) done (λ z. refl) e)
 
-  put_all : (statements : List StatementForm) (effects : List Effect) → AllByRecursion IsStatementInBounds statements
-      → each (effect scene) statements ≡ Some effects → Put scene statements effects
-  put_all [] effects right e =
-      let none : [] ≡ effects = cc in
-      record { values = []; shown = tt; fit = tt; same = ap (flat_map recorded) none }
-  put_all (statement ∷ statements) effects right e =
-      let got = parts (effect scene statement) (each (effect scene) statements) effects e in
-      subst (Put scene (statement ∷ statements)) (sym got.4)
-      (put statement statements got.0 got.1 right.0 got.2 (put_all statements got.1 right.1 got.3))
+  put_all : (past : TracingPast) (statements : List StatementForm) (effects : List Effect) → AreLocalsInBounds past.locals
+      → past.specs.nspec ≤ nspec_max → AllByRecursion IsStatementInBounds statements
+      → ArePerformed scene past statements effects → Put scene past statements effects
+  put_all past [] effects within few right all =
+      let none : [] ≡ effects = all.are in
+      subst (Put scene past []) none (record { values = []; shown = tt; fit = tt; same = refl })
+  put_all past (statement ∷ statements) effects within few right all =
+      let got = first_performed scene past statement statements effects all in
+      subst (Put scene past (statement ∷ statements)) (sym got.whole)
+      (put past statement statements got.first got.rest within right.0 got.does
+      (put_all (past_with past (got.first ∷ [])) statements got.rest
+      (bounds_after scene is past statement got.first within few right.0 got.does) few right.1 got.performed_later))
 
--- the effects of a clause that leaves something
-held : (b : Bool) (left : TakenForm) (epid : ℕ) (statements : List StatementForm) (os : Option (List Effect))
-    → (if b then option_map_or (λ effects. leaves (taken_of epid statements effects)) os abandoned else passed_over)
-    ≡ leaves left
-    → (effects : List Effect) × (os ≡ Some effects) × (left ≡ taken_of epid statements effects)
-held true left epid statements None e = cc
-held true left epid statements (Some effects) e = (effects, refl, cc)
-held false left epid statements os e = cc
-
-pub effects_of : (p : Option ℤ) (left : TakenForm) (epid : ℕ) (statements : List StatementForm) (os : Option (List Effect))
-    → option_map_or (λ z. if holds z then option_map_or (λ effects. leaves (taken_of epid statements effects)) os abandoned
-    else passed_over) p abandoned ≡ leaves left
-    → (effects : List Effect) × (os ≡ Some effects) × (left ≡ taken_of epid statements effects)
-effects_of None left epid statements os e = cc
-effects_of (Some z) left epid statements os e = held (holds z) left epid statements os e
-
-either : (b : Bool) (epid : ℕ) (scene : SceneForm) (clause : ClauseForm) (fields : List FieldForm) (bytes : List ℕ)
-    → IsRecordFrom epid scene clause fields bytes
-    → FitLayout epid scene clause (if b then Some fields else None) (if b then Some bytes else None)
-either true epid scene clause fields bytes is = is
-either false epid scene clause fields bytes is = tt
+either : (b : Bool) (epid : ℕ) (scene : SceneForm) (past : TracingPast) (clause : ClauseForm) (fields : List FieldForm)
+    (bytes : List ℕ) → IsRecordFrom epid scene past clause fields bytes
+    → FitLayout epid scene past clause (if b then Some fields else None) (if b then Some bytes else None)
+either true epid scene past clause fields bytes is = is
+either false epid scene past clause fields bytes is = tt
 
 -- what a clause leaves of a scene is a record of its layout, or neither is there
-pub records-fit : (epid : ℕ) (scene : SceneForm) (clause : ClauseForm) (left : TakenForm) → CanBeTaken scene clause
-    → taking epid scene clause ≡ leaves left → FitLayout epid scene clause (layout_of clause) left.record_bytes
-records-fit epid scene clause left can e =
-    let got = effects_of (predicate_value scene clause.predicate) left epid clause.statements
-    (each (effect scene) clause.statements) e in
-    let all = put_all scene can.scene_in_bounds clause.statements got.0 can.statements_in_bounds got.1 in
+pub records-fit : (epid : ℕ) (scene : SceneForm) (past : TracingPast) (clause : ClauseForm) (left : TakenForm)
+    → CanBeTaken scene past clause → (taking epid scene past clause).outcome ≡ leaves left
+    → FitLayout epid scene past clause (layout_of clause) left.record_bytes
+records-fit epid scene past clause left can e =
+    let got = leaves_all epid scene past clause left e in
+    let effects = perform scene past clause.statements in
+    let all = put_all scene can.scene_in_bounds past clause.statements effects can.locals_in_bounds can.few_identifiers
+    can.statements_in_bounds (all_performed epid scene past clause left e) in
     let written : RecordForm = record { epid = epid; values = all.values } in
-    let same : record_bytes written ≡ epid_bytes epid ++ flat_map recorded got.0 =
+    let same : record_bytes written ≡ epid_bytes epid ++ flat_map recorded effects =
     ap (λ l. epid_bytes epid ++ l) all.same in
-    let one : IsRecordFrom epid scene clause (fields_of clause.statements) (epid_bytes epid ++ flat_map recorded got.0) =
+    let one : IsRecordFrom epid scene past clause (fields_of clause.statements) (epid_bytes epid ++ flat_map recorded effects) =
     record {
       written = written;
       numbered = refl;
-      shown = all.shown;
+      shown = subst (λ es. ShowAll scene (filter (λ (one : TracingPast × StatementForm). is_recording one.1)
+          (zip (pasts_from past es) clause.statements)) all.values) (sym got.effects_are) all.shown;
       fit = all.fit;
       same = same;
       long = ap length (sym same) ∙ record_long (fields_of clause.statements) written all.fit;
     } in
-    subst (λ (l : TakenForm). FitLayout epid scene clause (layout_of clause) l.record_bytes) (sym got.2)
-    (either (leaves_record clause.statements) epid scene clause (fields_of clause.statements)
-    (epid_bytes epid ++ flat_map recorded got.0) one)
+    subst (λ (l : TakenForm). FitLayout epid scene past clause (layout_of clause) l.record_bytes) (sym got.left_is)
+    (either (leaves_record clause.statements) epid scene past clause (fields_of clause.statements)
+    (epid_bytes epid ++ flat_map recorded effects) one)
 
 -- bytes that a clause left are bytes of a layout that there is
-of_some : (epid : ℕ) (scene : SceneForm) (clause : ClauseForm) (o : Option (List FieldForm)) (b : Option (List ℕ))
-    (bytes : List ℕ) → FitLayout epid scene clause o b → b ≡ Some bytes
-    → (fields : List FieldForm) × (o ≡ Some fields) × IsRecordFrom epid scene clause fields bytes
-of_some epid scene clause None None bytes fit e = cc
-of_some epid scene clause None (Some all) bytes fit e = elim fit [ ]
-of_some epid scene clause (Some fields) None bytes fit e = elim fit [ ]
-of_some epid scene clause (Some fields) (Some all) bytes fit e =
+of_some : (epid : ℕ) (scene : SceneForm) (past : TracingPast) (clause : ClauseForm) (o : Option (List FieldForm))
+    (b : Option (List ℕ)) (bytes : List ℕ) → FitLayout epid scene past clause o b → b ≡ Some bytes
+    → (fields : List FieldForm) × (o ≡ Some fields) × IsRecordFrom epid scene past clause fields bytes
+of_some epid scene past clause None None bytes fit e = cc
+of_some epid scene past clause None (Some all) bytes fit e = elim fit [ ]
+of_some epid scene past clause (Some fields) None bytes fit e = elim fit [ ]
+of_some epid scene past clause (Some fields) (Some all) bytes fit e =
     let same : all ≡ bytes = cc in
-    (fields, refl, subst (IsRecordFrom epid scene clause fields) same fit)
+    (fields, refl, subst (IsRecordFrom epid scene past clause fields) same fit)
 
 module _ (clauses : List ClauseForm) where
   one_left : (bytes : List ℕ) → IsLeftBy clauses bytes
       → (r : RecordForm) × IsRecordOf (map layout_of clauses) r × (record_bytes r ≡ bytes)
   one_left bytes is =
-      let got = of_some (is.place + 1) is.scene is.clause (layout_of is.clause) is.left.record_bytes bytes
-      (records-fit (is.place + 1) is.scene is.clause is.left is.can is.taken) is.these in
+      let got = of_some (is.place + 1) is.scene is.past is.clause (layout_of is.clause) is.left.record_bytes bytes
+      (records-fit (is.place + 1) is.scene is.past is.clause is.left is.can is.taken) is.these in
       let from = got.2 in
       let small = is.small in
       let numbered = from.numbered in (

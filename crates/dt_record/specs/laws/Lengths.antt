@@ -1,6 +1,6 @@
 -- What a clause leaves is as long as its layout says, whatever numbers are in it.
 use Rattle.std.proofs.Common.{◌≡◌, ℕ, ◌*◌, ◌≤◌, Bool, true, false, List, [], ◌∷◌, ◌++◌, Some, None, map, take}
-use Rattle.std.proofs.Common.{length, sum, sym, ap, subst, ◌∙◌, arith}
+use Rattle.std.proofs.Common.{length, sum, refl, sym, ap, subst, ◌∙◌, arith}
 use Rattle.std.proofs.lemmas.List.{length-append, length-take-le}
 use Rattle.std.specs.Prelude.{if◌then◌else◌}
 use Rattle.std.specs.Int.{w64, cast_unsigned}
@@ -17,10 +17,12 @@ use Rattle.dt_program.specs.Clause as program
 use Rattle.dt_record.specs.Layout.{FieldForm, fields_of, field_size, layout_of, layout_size}
 use Rattle.dt_record.specs.Layout as layout
 use Rattle.dt_record.specs.Showing.{HasLengths, IsTextInBounds, IsOfLength}
-use Rattle.dt_record.specs.Taking.{TakenForm, Effect, records, each, effect, recorded, epid_bytes}
-use Rattle.dt_record.specs.Taking.{argument_value, given, leaves_record, predicate_value, leaves, taking}
-use Rattle.dt_record.specs.laws.Fitting.{sum_of, frames_long, padded_long, number_put, no_bytes_of_exit, no_bytes_of_use}
-use Rattle.dt_record.specs.laws.Fitting.{parts, effects_of}
+use Rattle.dt_record.specs.Pasts.{TracingPast}
+use Rattle.dt_record.specs.Taking.{TakenForm, Effect, records, exits, assigns, speculates, ends, committed, discarded}
+use Rattle.dt_record.specs.Taking.{argument_value, assignment_in, draw_effect, each, effect, epid_bytes, given, identifier}
+use Rattle.dt_record.specs.Taking.{leaves, leaves_record, past_with, perform, recorded, taking}
+use Rattle.dt_record.specs.laws.Fitting.{RecordsNone, sum_of, frames_long, padded_long, number_put}
+use Rattle.dt_record.specs.laws.Performing.{ArePerformed, all_performed, does_with, first_performed, gives_with, leaves_all}
 
 text_fits : (scene : SceneForm) → HasLengths scene → (t : Text) → IsTextInBounds t
     → length (text_bytes scene t) ≤ padded_size
@@ -44,41 +46,59 @@ module _ (scene : SceneForm) (is : HasLengths scene) where
   abbrev IsLong : List StatementForm → List Effect → Type 0
   IsLong statements effects = length (flat_map recorded effects) ≡ sum (map field_size (fields_of statements))
 
-  long : (statement : StatementForm) (statements : List StatementForm) (done : Effect) (effects : List Effect)
-      → IsOfLength statement → effect scene statement ≡ Some done → IsLong statements effects
+  unrecorded : (statements : List StatementForm) (done : Effect) (effects : List Effect) → RecordsNone done
+      → IsLong statements effects → length (flat_map recorded (done ∷ effects)) ≡ sum (map field_size (fields_of statements))
+  unrecorded statements done effects none rest = ap (λ l. length (l ++ flat_map recorded effects)) none ∙ rest
+
+  long : (past : TracingPast) (statement : StatementForm) (statements : List StatementForm) (done : Effect)
+      (effects : List Effect) → IsOfLength statement → effect scene past statement ≡ Some done → IsLong statements effects
       → IsLong (statement ∷ statements) (done ∷ effects)
-  long (program.trace (program.number f)) statements done effects right e rest =
-      let got = number_put (value scene f) done e in
+  long past (program.trace (program.number f)) statements done effects right e rest =
+      let got = number_put (value scene past.locals f) done e in
       one_more layout.number (fields_of statements) (recorded done) (flat_map recorded effects)
       (ap (λ d. length (recorded d)) got.2 ∙ length-bytes_high_first 8 (cast_unsigned w64 got.0)) rest
-  long (program.trace (program.text t)) statements done effects right e rest =
+  long past (program.trace (program.text t)) statements done effects right e rest =
       let got : done ≡ records (padded (text_bytes scene t)) = cc in
       one_more layout.text (fields_of statements) (recorded done) (flat_map recorded effects)
       (ap (λ d. length (recorded d)) got ∙ padded_long (text_bytes scene t) (text_fits scene is t right)) rest
-  long (program.stack n) statements done effects right e rest =
+  long past (program.stack n) statements done effects right e rest =
       let got : done ≡ records (flat_map (big_bytes 8) (take n scene.firing.kstack)) = cc in
       one_more (layout.stack n) (fields_of statements) (recorded done) (flat_map recorded effects)
       (ap (λ d. length (recorded d)) got ∙ first_long n scene.firing.kstack is.kstack right) rest
-  long (program.ustack n) statements done effects right e rest =
+  long past (program.ustack n) statements done effects right e rest =
       let got : done ≡ records (flat_map (big_bytes 8) (take n scene.firing.ustack)) = cc in
       one_more (layout.ustack n) (fields_of statements) (recorded done) (flat_map recorded effects)
       (ap (λ d. length (recorded d)) got ∙ first_long n scene.firing.ustack is.ustack right) rest
-  long (program.exit f) statements done effects right e rest =
-      ap (λ l. length (l ++ flat_map recorded effects)) (no_bytes_of_exit (value scene f) done e) ∙ rest
-  long (program.aggregate name keys call) statements done effects right e rest =
-      ap (λ l. length (l ++ flat_map recorded effects))
-      (no_bytes_of_use (each (argument_value scene) keys) (given scene call) done e)
-      ∙ rest
+  long past (program.exit f) statements done effects right e rest =
+      unrecorded statements done effects (does_with RecordsNone (value scene past.locals f) exits done (λ z. refl) e) rest
+  long past (program.aggregate name keys call) statements done effects right e rest =
+      unrecorded statements done effects (gives_with RecordsNone (each (argument_value scene past.locals) keys)
+      (given scene past.locals call) done (λ values. refl) e) rest
+  long past (program.assign name f) statements done effects right e rest =
+      unrecorded statements done effects (does_with RecordsNone (value scene past.locals f)
+      (λ z. assigns (assignment_in scene name z)) done (λ z. refl) e) rest
+  long past (program.draw name) statements done effects right e rest =
+      unrecorded statements done effects (let got : draw_effect scene past name ≡ done = cc in subst RecordsNone got refl) rest
+  long past (program.speculate f) statements done effects right e rest =
+      unrecorded statements done effects (does_with RecordsNone (value scene past.locals f)
+      (λ z. speculates (identifier z)) done (λ z. refl) e) rest
+  long past (program.commit f) statements done effects right e rest =
+      unrecorded statements done effects (does_with RecordsNone (value scene past.locals f)
+      (λ z. ends (committed (identifier z))) done (λ z. refl) e) rest
+  long past (program.discard f) statements done effects right e rest =
+      unrecorded statements done effects (does_with RecordsNone (value scene past.locals f)
+      (λ z. ends (discarded (identifier z))) done (λ z. refl) e) rest
 
-  all_long : (statements : List StatementForm) (effects : List Effect) → AllByRecursion IsOfLength statements
-      → each (effect scene) statements ≡ Some effects → IsLong statements effects
-  all_long [] effects right e =
-      let none : [] ≡ effects = cc in
+  all_long : (past : TracingPast) (statements : List StatementForm) (effects : List Effect)
+      → AllByRecursion IsOfLength statements → ArePerformed scene past statements effects → IsLong statements effects
+  all_long past [] effects right all =
+      let none : [] ≡ effects = all.are in
       ap (λ l. length (flat_map recorded l)) (sym none)
-  all_long (statement ∷ statements) effects right e =
-      let got = parts (effect scene statement) (each (effect scene) statements) effects e in
-      subst (IsLong (statement ∷ statements)) (sym got.4)
-      (long statement statements got.0 got.1 right.0 got.2 (all_long statements got.1 right.1 got.3))
+  all_long past (statement ∷ statements) effects right all =
+      let got = first_performed scene past statement statements effects all in
+      subst (IsLong (statement ∷ statements)) (sym got.whole)
+      (long past statement statements got.first got.rest right.0 got.does
+      (all_long (past_with past (got.first ∷ [])) statements got.rest right.1 got.performed_later))
 
 either : (b : Bool) (fields : List FieldForm) (front bytes : List ℕ) → length front ≡ layout_size (Some fields)
     → (if b then Some front else None) ≡ Some bytes → length bytes ≡ layout_size (if b then Some fields else None)
@@ -86,17 +106,16 @@ either true fields front bytes is e = let same : front ≡ bytes = cc in ap leng
 either false fields front bytes is e = cc
 
 -- the record that a clause leaves is as long as its layout says
-pub left_long : (epid : ℕ) (scene : SceneForm) (clause : ClauseForm) (left : TakenForm) (bytes : List ℕ)
+pub left_long : (epid : ℕ) (scene : SceneForm) (past : TracingPast) (clause : ClauseForm) (left : TakenForm) (bytes : List ℕ)
     → HasLengths scene → AllByRecursion IsOfLength clause.statements
-    → taking epid scene clause ≡ leaves left → left.record_bytes ≡ Some bytes
+    → (taking epid scene past clause).outcome ≡ leaves left → left.record_bytes ≡ Some bytes
     → length bytes ≡ layout_size (layout_of clause)
-left_long epid scene clause left bytes is right e these =
-    let got = effects_of (predicate_value scene clause.predicate) left epid clause.statements
-    (each (effect scene) clause.statements) e in
-    let rest = all_long scene is clause.statements got.0 right got.1 in
+left_long epid scene past clause left bytes is right e these =
+    let effects = perform scene past clause.statements in
+    let rest = all_long scene is past clause.statements effects right (all_performed epid scene past clause left e) in
     let four = length-bytes_high_first 4 epid in
-    let front : length (epid_bytes epid ++ flat_map recorded got.0) ≡ layout_size (Some (fields_of clause.statements)) =
-    omega (arith, length-append (epid_bytes epid) (flat_map recorded got.0), four, rest) in
+    let front : length (epid_bytes epid ++ flat_map recorded effects) ≡ layout_size (Some (fields_of clause.statements)) =
+    omega (arith, length-append (epid_bytes epid) (flat_map recorded effects), four, rest) in
     either (leaves_record clause.statements) (fields_of clause.statements)
-    (epid_bytes epid ++ flat_map recorded got.0) bytes front
-    (sym (ap (λ (l : TakenForm). l.record_bytes) got.2) ∙ these)
+    (epid_bytes epid ++ flat_map recorded effects) bytes front
+    (sym (ap (λ (l : TakenForm). l.record_bytes) (leaves_all epid scene past clause left e).left_is) ∙ these)

@@ -8,10 +8,10 @@ use Rattle.std.specs.Prelude.{if◌then◌else◌, int_div, int_rem, unsigned_ab
 use Rattle.std.specs.Int.{w64, cast_unsigned, int_div_euclid}
 use Rattle.std.specs.Option.{option_map, option_and_then, option_or}
 use Rattle.std.specs.Ordering.{int_eq}
-use Rattle.dt_expr.specs.Form.{Form, Num, Named, Prefixed, Joined, Compared}
+use Rattle.dt_expr.specs.Form.{Form, Num, Named, Local, Prefixed, Joined, Compared}
 use Rattle.dt_expr.specs.Operators.{truth, holds, unary, binary, decided, compared, shift_count}
 use Rattle.dt_expr.specs.Scene.{SceneForm, number_named, text_bytes}
-use Rattle.dt_expr.specs.Value.{value, joined}
+use Rattle.dt_expr.specs.Value.{value, joined, local_named}
 use Rattle.dt_expr.specs.declared.operators.BinaryOp.{BinaryOp}
 use Rattle.dt_expr.specs.declared.operators.BinaryOp.TheVariants.{Or, Xor, And, BitOr, BitXor, BitAnd, Equal}
 use Rattle.dt_expr.specs.declared.operators.BinaryOp.TheVariants.{NotEqual, Less, LessEqual, Greater, GreaterEqual}
@@ -21,7 +21,8 @@ use Rattle.dt_expr.specs.declared.operators.TextOp.{TextOp}
 use Rattle.dt_expr.specs.declared.operators.TextOp.TheVariants.{Equal as SameText, NotEqual as OtherText}
 use Rattle.dt_expr.specs.declared.operators.UnaryOp.{UnaryOp}
 use Rattle.dt_expr.specs.declared.operators.UnaryOp.TheVariants.{Not, Complement, Negate, Plus}
-use Rattle.dt_record.specs.Showing.{IsSceneInBounds, IsExpressionInBounds}
+use Rattle.dt_locals.specs.History.{LocalsPast, local_of}
+use Rattle.dt_record.specs.Showing.{IsSceneInBounds, IsExpressionInBounds, AreLocalsInBounds}
 
 abbrev Has64Bits : ℤ → Type 0
 Has64Bits z = FitsSigned w64 z
@@ -144,12 +145,13 @@ compared_fits : (op : TextOp) (a b : List ℕ) → Has64Bits (compared op a b)
 compared_fits SameText a b = truth_fits _
 compared_fits OtherText a b = truth_fits _
 
-pub value_fits : (scene : SceneForm) → IsSceneInBounds scene → (f : Form) → IsExpressionInBounds f → (z : ℤ) → value scene f ≡ Some z
-    → FitsSigned w64 z
-value_fits scene is (Num number) h = some_fits number h
-value_fits scene is (Named variable) h = some_fits (number_named scene variable) (is.numbers variable)
-value_fits scene is (Prefixed op operand) h = prefixed_fits op (value scene operand) (value_fits scene is operand h)
-value_fits scene is (Joined op left right) h =
-    joined_fits op (value scene left) (value scene right) (value_fits scene is left h.0) (value_fits scene is right h.1)
-value_fits scene is (Compared op left right) h =
-    some_fits _ (compared_fits op (text_bytes scene left) (text_bytes scene right))
+module _ (scene : SceneForm) (is : IsSceneInBounds scene) (locals : LocalsPast) (within : AreLocalsInBounds locals) where
+  pub value_fits : (f : Form) → IsExpressionInBounds f → (z : ℤ) → value scene locals f ≡ Some z → FitsSigned w64 z
+  value_fits (Num number) h = some_fits number h
+  value_fits (Named variable) h = some_fits (number_named scene variable) (is.numbers variable)
+  value_fits (Local name) h =
+      some_fits (local_named scene locals name) (within (local_of scene.firing.pid scene.firing.tid name))
+  value_fits (Prefixed op operand) h = prefixed_fits op (value scene locals operand) (value_fits operand h)
+  value_fits (Joined op left right) h =
+      joined_fits op (value scene locals left) (value scene locals right) (value_fits left h.0) (value_fits right h.1)
+  value_fits (Compared op left right) h = some_fits _ (compared_fits op (text_bytes scene left) (text_bytes scene right))

@@ -7,7 +7,7 @@ use Rattle.std.proofs.lemmas.Bool.{eq-eqb}
 use Rattle.dt_ecb.specs.Forms.{form_of_ecb, no_clause}
 use Rattle.dt_ecb.specs.declared.parts.Ecb.{Ecb}
 use Rattle.dt_lang.specs.Program.{ClauseForm, form_of_clause}
-use Rattle.dt_record.specs.Layout.{layout_of, layout_size}
+use Rattle.dt_life.specs.Life.{attempt_size}
 use Rattle.dt_life.specs.declared.limits.TheConstants.{END}
 use Rattle.dt_life.specs.laws.Sizes.{end_sizes, one_size, size_by, sizes_more, sizes_few}
 use Rattle.dt_life.specs.laws.Takings.{clause_found, there_at}
@@ -35,16 +35,16 @@ returns-in_err-left-clause-left c = λ clauses own placed.
     let inside : ecb.clause < length clauses =
     there_at row i ecb (length clauses) placed
     c.loop-ecb-test.true c.ecb-item.is in
-    let found : c.size.result ≡ size_by (form_of_ecb clauses ecb) =
-    c.size.ensures ∙ ap layout_size c.of.ensures
-    ∙ ap (λ f. layout_size (layout_of f))
+    let found : c.size_attempted.result ≡ size_by (form_of_ecb clauses ecb) =
+    c.size_attempted.ensures
+    ∙ ap attempt_size
     (sym (clause_found c.args.clauses.now ecb.clause clause
     (omega (arith, inside, sym (ap length own), length-map c.args.clauses.now form_of_clause))
     (c.in_ok-clause.ensures.lookup.3.1 clause))
     ∙ ap (λ cs. get_or cs ecb.clause no_clause) own) in
     none_left c.from_residual-in_err-left.result _ _ c.from_residual-in_err-left.ensures
     (too_few c.args.size c.loop-ecb.left (end_sizes clauses (take i row)) (end_sizes clauses (take (i + 1) row))
-    (end_sizes clauses row) c.size.result (c.loop-ecb.invariant.left clauses own placed)
+    (end_sizes clauses row) c.size_attempted.result (c.loop-ecb.invariant.left clauses own placed)
     (sizes_more clauses row i ecb c.loop-ecb-test.true c.ecb-item.is
-    ∙ ap (λ n. end_sizes clauses (take i row) + n) (sym (one_is clauses ecb c.size.result c.if-ecb-eq-END.true found)))
+    ∙ ap (λ n. end_sizes clauses (take i row) + n) (sym (one_is clauses ecb c.size_attempted.result c.if-ecb-eq-END.true found)))
     (sizes_few clauses row (i + 1)) (omega (arith, c.in_err-left.ensures)))

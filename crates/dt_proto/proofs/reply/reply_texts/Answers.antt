@@ -4,7 +4,7 @@ use Rattle.std.specs.Fmt.{digits}
 use Rattle.dt_lang.specs.Fault.{why_word}
 use Rattle.dt_lang.specs.Word.{name_of_destructive}
 use Rattle.dt_lang.specs.declared.fault.Why.{Why}
-use Rattle.dt_lang.specs.declared.fault.Why.TheVariants.{Syntax, Probe, Action, Variable, TooLong, Range}
+use Rattle.dt_lang.specs.declared.fault.Why.TheVariants.{Syntax, Probe, Action, Variable, TooLong, Range, Spec}
 use Rattle.dt_lang.specs.declared.word.Destructive.{Destructive}
 use Rattle.dt_lang.specs.declared.word.Destructive.TheVariants.{Stop, Raise, Copyout, Copyoutstr, System, Breakpoint}
 use Rattle.dt_lang.specs.declared.word.Destructive.TheVariants.{Panic, Chill}
@@ -59,6 +59,7 @@ by_why at Action = simp (four, append_assoc)
 by_why at Variable = simp (four, append_assoc)
 by_why at TooLong = simp (four, append_assoc)
 by_why at Range = simp (four, append_assoc)
+by_why at Spec = simp (four, append_assoc)
 
 by_name : (at : ℕ) (what : Destructive) → reply_text (refused (Refusal.Destructive at what))
     ≡ codes "{\"at\":" ++ decimal at
@@ -152,7 +153,8 @@ pub returns-clause-stopped : goal.returns-clause-stopped
 returns-clause-stopped c = text-stopped
 
 pub returns-clause-exited : goal.returns-clause-exited
-returns-clause-exited c = text-exited
+returns-clause-exited c = λ code seen errors aggdrops dyndrops specdrops specfails.
+    text-exited seen errors aggdrops dyndrops specdrops specfails code
 
 pub returns-clause-history : goal.returns-clause-history
 returns-clause-history c = text-history

@@ -10,17 +10,17 @@ use Rattle.dt_record.specs.Taking.{argument_value}
 use Rattle.dt_record.proofs.building.put_argument.Goals as goal
 
 pub returns-in_ok-number-in-Number-clause-written : goal.returns-in_ok-number-in-Number-clause-written
-returns-in_ok-number-in-Number-clause-written c = (
+returns-in_ok-number-in-Number-clause-written c = λ past at. (
   val.Number c.in_ok-number-in-Number.number,
-  ap (λ (a : Argument). argument_value (scene_of c.args.scene.now) (form_of_argument a)) c.in-Number.is
-      ∙ ap (option_map val.Number) c.in_ok-number-in-Number.ensures,
+  ap (λ (a : Argument). argument_value (scene_of c.args.scene.now) past (form_of_argument a)) c.in-Number.is
+      ∙ ap (option_map val.Number) (c.in_ok-number-in-Number.ensures past at),
   search rules,
 )
 
 pub returns-in-Text-clause-written : goal.returns-in-Text-clause-written
-returns-in-Text-clause-written c = (
+returns-in-Text-clause-written c = λ past at. (
   text_value (scene_of c.args.scene.now) c.in-Text.text,
-  ap (λ (a : Argument). argument_value (scene_of c.args.scene.now) (form_of_argument a)) c.in-Text.is,
+  ap (λ (a : Argument). argument_value (scene_of c.args.scene.now) past (form_of_argument a)) c.in-Text.is,
   c.put.ensures.written ∙ ap (λ shown. option_map (λ bytes. bytes ++ shown) (bytes_of c.args.record.now))
       c.shown.ensures,
 )

@@ -9,6 +9,6 @@ use Rattle.dt_record.proofs.recording.leave_record.Goals as goal
 
 pub returns-else-is_empty : goal.returns-else-is_empty
 returns-else-is_empty c =
-    c.any_records.ensures ∙ sym (list_any-map spec.is_recording form_of_statement c.args.statements.now)
-    ∙ ap (λ empty. empty || list_any spec.is_recording (map form_of_statement c.args.statements.now))
+    c.any_asks.ensures ∙ sym (list_any-map spec.asks_for_record form_of_statement c.args.statements.now)
+    ∙ ap (λ empty. empty || list_any spec.asks_for_record (map form_of_statement c.args.statements.now))
     (c.if-is_empty.ensures ∙ ap (λ n. n == 0) (sym (length-map c.args.statements.now form_of_statement)))

@@ -9,21 +9,22 @@ use Rattle.dt_record.proofs.values.put_keys.Goals as goal
 
 pub returns-in_err-value_of-clause-fault : goal.returns-in_err-value_of-clause-fault
 returns-in_err-value_of-clause-fault c =
-    on_err c.from_residual.result
-    (each-stop form_of_argument (argument_value (scene_of c.args.scene.now)) c.args.keys.now c.loop-key.key-index
-    c.key-item.result c.loop-key-test.true c.key-item.is c.in_err-value_of.ensures)
+    on_err c.from_residual.result (λ past at.
+    each-stop form_of_argument (argument_value (scene_of c.args.scene.now) past) c.args.keys.now c.loop-key.key-index
+    c.key-item.result c.loop-key-test.true c.key-item.is (c.in_err-value_of.ensures past at))
 
 pub loop-key-preserved : goal.loop-key-preserved
 loop-key-preserved c =
-    let given = c.loop-key.invariant.given in
     let value = c.in_ok-value_of.field-0 in
     record {
-      given = (
-        given.0 ++ value ∷ [],
-        each-turn form_of_argument (argument_value (scene_of c.args.scene.now)) c.args.keys.now c.loop-key.key-index
-            c.key-item.result c.loop-key-test.true c.key-item.is given.0 value given.1 c.in_ok-value_of.ensures,
-        c.push.ensures.items ∙ ap (λ vs. vs ++ value ∷ []) given.2
-            ∙ append_assoc c.args.values.now.items given.0 (value ∷ []),
-      );
+      given = λ past at.
+          let given = c.loop-key.invariant.given past at in (
+            given.0 ++ value ∷ [],
+            each-turn form_of_argument (argument_value (scene_of c.args.scene.now) past) c.args.keys.now c.loop-key.key-index
+                c.key-item.result c.loop-key-test.true c.key-item.is given.0 value given.1
+                (c.in_ok-value_of.ensures past at),
+            c.push.ensures.items ∙ ap (λ vs. vs ++ value ∷ []) given.2
+                ∙ append_assoc c.args.values.now.items given.0 (value ∷ []),
+          );
       long = search rules;
     }

@@ -1,127 +1,177 @@
--- One ECB more was taken, or passed.
-use Rattle.std.proofs.Common.{◌≡◌, ◌+◌, ◌==◌, ◌∷◌, [], true, cond, List, None, length, map, take, sym, ap, ◌∙◌}
+-- One ECB more was taken, and then all.
+use Rattle.std.proofs.Common.{◌+◌, ◌-◌, ◌*◌, ◌<◌, ◌≤◌, ◌++◌, ◌∷◌, [], length, map, take, refl, sym, ap, ◌∙◌}
 use Rattle.std.proofs.Common.{subst, arith}
-use Rattle.std.specs.Global.{Vec}
-use Rattle.std.proofs.lemmas.Bool.{eq-eqb, ne_eqb}
+use Rattle.std.specs.Option.{is_some}
+use Rattle.std.proofs.lemmas.Bool.{true≢false}
 use Rattle.std.proofs.lemmas.List.{take_all}
+use Rattle.dt_alone.specs.Happened.{Brings}
+use Rattle.dt_alone.specs.Kept.{IsKeptAt}
+use Rattle.dt_alone.proofs.Firing.{exit_is, exit_there, steps_step, taken_all, taken_through}
 use Rattle.dt_ecb.specs.Forms.{shapes_of}
+use Rattle.dt_ecb.specs.declared.limits.TheConstants.{ECBS_MAX}
 use Rattle.dt_lang.specs.Program.{form_of_clause}
+use Rattle.dt_locals.specs.declared.limits.TheConstants.{LOCAL_DROPS_LIMIT}
 use Rattle.dt_machine.specs.Context.{form_of_context}
-use Rattle.dt_alone.specs.Happened.{AddsTakings}
-use Rattle.dt_alone.specs.declared.happened.Happened.{Happened}
-use Rattle.dt_alone.proofs.Bringing.{adds_both}
-use Rattle.dt_alone.proofs.Firing.{exit_all, exited, exited_here, exited_other, exited_past, none_is, some_exit}
-use Rattle.dt_alone.proofs.Firing.{some_is, taken, taken_here, taken_other, taken_past}
-use Rattle.dt_life.specs.Following.{taking_by}
-use Rattle.dt_life.specs.Takings.{exit_of, first_exit}
+use Rattle.dt_program.specs.declared.clause.TheConstants.{STATEMENTS_MAX}
+use Rattle.dt_life.specs.Takings.{first_exit}
+use Rattle.dt_life.specs.TracingSteps.{steps_and, takes}
+use Rattle.dt_life.specs.laws.Rows.{of_row, stays_more, taken_there}
+use Rattle.dt_life.specs.laws.TracingSteps.{steps_none}
 use Rattle.dt_alone.proofs.programs.Programs.take.Goals as goal
-use Rattle.dt_alone.proofs.programs.Programs.take.Goals.{then-ecb-context+then-is_none+in_ok-status+then-in_end}
-use Rattle.dt_alone.proofs.programs.Programs.take.Goals.{then-ecb-context+then-is_none+in_ok-status+else-in_end}
-use Rattle.dt_alone.proofs.programs.Programs.take.Goals.{else-ecb-context}
-use Rattle.dt_alone.proofs.programs.Programs.take.Goals.{else-ecb-context-via-then-ecb-context+else-is_none}
-use Rattle.dt_alone.proofs.programs.Programs.take.Goals.{else-ecb-context-via-else-ecb-context}
+use Rattle.dt_alone.proofs.programs.Programs.take.Goals.{else-is_some-via-then-is_some+else-not-in_end, else-is_some-via-else-is_some}
+
+pub loop-ecb-init : goal.loop-ecb-init
+loop-ecb-init c = record {
+  kept = λ options steps kept brings. (
+    subst (λ xs. IsKeptAt options xs c.args.kept.now) (sym (steps_none steps)) kept,
+    subst (Brings c.args.kept.now.cpus (shapes_of c.args.self.now.shapes) options c.args.happened.now.items) (sym (steps_none steps))
+        brings,
+  );
+  stays = λ ordinary options steps kept brings. refl;
+  few = omega arith;
+  counts = λ n h. (omega (arith, h.0), omega (arith, h.1));
+  cpus = refl;
+}
+
+pub take_one-requires-clause-counts : goal.take_one-requires-clause-counts
+take_one-requires-clause-counts c =
+    let at = c.loop-ecb.invariant.counts (LOCAL_DROPS_LIMIT - ECBS_MAX * STATEMENTS_MAX) c.requires.counts in
+    let inside : c.loop-ecb.ecb-index < ECBS_MAX =
+    omega (arith, c.loop-ecb-test.true, ap length c.deref-ecb-items.ensures.value, c.in_ok-row.ensures.few) in
+    (omega (arith, at.0, inside), omega (arith, at.1, inside))
 
 pub loop-ecb-preserved : goal.loop-ecb-preserved
 loop-ecb-preserved c =
+    let in_end = c.args.in_end in
     let m = form_of_context c.args.context.now in
     let cs = map form_of_clause c.args.self.now.clauses.items in
     let shapes = shapes_of c.args.self.now.shapes in
-    let all = c.deref-ecb-items.result.now in
+    let row = c.deref-ecb-items.result.now in
     let i = c.loop-ecb.ecb-index in
     let ecb = c.ecb-item.result in
-    let inside = c.loop-ecb-test.true in
-    let is_at = c.ecb-item.is in
-    let old = c.args.happened.now.items in
-    let stays : (l : List Happened)
-    → (taken c.args.in_end m cs (take (i + 1) all) ≡ taken c.args.in_end m cs (take i all))
-    → l ≡ c.loop-ecb.happened.items
-    → AddsTakings shapes m.firing.cpu (taken c.args.in_end m cs (take (i + 1) all)) old l =
-    λ l same is.
-    subst (λ ts. AddsTakings shapes m.firing.cpu ts old l) (sym same)
-    (subst (λ x. AddsTakings shapes m.firing.cpu (taken c.args.in_end m cs (take i all)) old x) (sym is)
-    c.loop-ecb.invariant.adds) in
-    let grows : (l : List Happened) → (ecb.probe == m.firing.probe) ≡ true → c.loop-ecb.exit ≡ None
-    → AddsTakings shapes m.firing.cpu (taking_by c.args.in_end m cs ecb ∷ []) c.loop-ecb.happened.items l
-    → AddsTakings shapes m.firing.cpu (taken c.args.in_end m cs (take (i + 1) all)) old l =
-    λ l its none one.
-    subst (λ ts. AddsTakings shapes m.firing.cpu ts old l)
-    (sym (taken_here c.args.in_end m cs all i ecb inside is_at its (sym c.loop-ecb.invariant.exit ∙ none)))
-    (adds_both shapes m.firing.cpu (taken c.args.in_end m cs (take i all)) (taking_by c.args.in_end m cs ecb ∷ [])
-    old c.loop-ecb.happened.items l c.loop-ecb.invariant.adds one) in
     let held = c.loop-ecb.invariant in
-    elim c.if-ecb-context.branch [
-      | then-ecb-context+then-is_none+in_ok-status+then-in_end w ↦
-          let its = eq-eqb ecb.probe m.firing.probe w.if-ecb-context.true in
-          let none = none_is c.loop-ecb.exit w.is_none.result w.is_none.ensures w.if-is_none.true in
-          let is = ap (λ (v : Vec Happened). v.items) w.happened-is in
-          record {
-            adds =
-                subst (λ l. AddsTakings shapes m.firing.cpu (taken c.args.in_end m cs (take (i + 1) all)) old l) (sym is)
-                (grows w.take_one.new.happened.items its none w.in_ok-status.ensures.taken);
-            exit =
-                w.exit-is
-                ∙ sym (exited_here c.args.in_end m cs all i ecb inside is_at its (sym held.exit ∙ none)
-                ∙ ap (λ b. cond b None (exit_of (taking_by c.args.in_end m cs ecb))) w.if-in_end.true);
-            few = omega (arith, ap length is, held.few, w.take_one.ensures.few);
-          }
-      | then-ecb-context+then-is_none+in_ok-status+else-in_end w ↦
-          let its = eq-eqb ecb.probe m.firing.probe w.if-ecb-context.true in
-          let none = none_is c.loop-ecb.exit w.is_none.result w.is_none.ensures w.if-is_none.true in
-          let is = ap (λ (v : Vec Happened). v.items) w.happened-is in
-          record {
-            adds =
-                subst (λ l. AddsTakings shapes m.firing.cpu (taken c.args.in_end m cs (take (i + 1) all)) old l) (sym is)
-                (grows w.take_one.new.happened.items its none w.in_ok-status.ensures.taken);
-            exit =
-                w.exit-is ∙ w.in_ok-status.ensures.exit
-                ∙ sym (exited_here c.args.in_end m cs all i ecb inside is_at its (sym held.exit ∙ none)
-                ∙ ap (λ b. cond b None (exit_of (taking_by c.args.in_end m cs ecb))) w.if-in_end.false);
-            few = omega (arith, ap length is, held.few, w.take_one.ensures.few);
-          }
-      | else-ecb-context w ↦
-          let is = ap (λ (v : Vec Happened). v.items) w.happened-is in
-          elim w.else-ecb-context.branch [
-            | else-ecb-context-via-then-ecb-context+else-is_none w' ↦
-                let some = some_is c.loop-ecb.exit w'.is_none.result w'.is_none.ensures w'.if-is_none.false in
-                record {
-                  adds = some_exit c.loop-ecb.exit _ some
-                      (λ z e. stays c.if-ecb-context.happened.items
-                      (taken_past c.args.in_end m cs all i ecb inside is_at z (sym held.exit ∙ e)) is);
-                  exit = w.exit-is ∙ held.exit ∙ some_exit c.loop-ecb.exit _ some
-                      (λ z e. sym (exited_past c.args.in_end m cs all i ecb inside is_at z
-                      (sym held.exit ∙ e)));
-                  few = omega (arith, ap length is, held.few);
-                }
-            | else-ecb-context-via-else-ecb-context w' ↦
-                let other = ne_eqb ecb.probe m.firing.probe w'.if-ecb-context.false in
-                record {
-                  adds = stays c.if-ecb-context.happened.items
-                      (taken_other c.args.in_end m cs all i ecb inside is_at other) is;
-                  exit = w.exit-is ∙ held.exit
-                      ∙ sym (exited_other c.args.in_end m cs all i ecb inside is_at other);
-                  few = omega (arith, ap length is, held.few);
-                }
-          ]
-    ]
+    record {
+      kept = λ options steps kept brings.
+          let done = steps_and steps (of_row options in_end m cs steps (take i row)) in
+          let at = held.kept options steps kept brings in
+          let next = steps_step options in_end m cs steps row i ecb c.loop-ecb-test.true c.ecb-item.is in
+          let took = c.in_ok-exit.ensures.taken options done at.0
+          (subst (λ n. Brings n shapes options c.loop-ecb.happened.items done) (sym held.cpus) at.1) in (
+            subst (λ xs. IsKeptAt options xs c.take_one.new.kept) next took.0,
+            subst (Brings c.args.kept.now.cpus shapes options c.take_one.new.happened.items) next
+                (subst (λ n. Brings n shapes options c.take_one.new.happened.items
+                (done ++ takes (taken_there options in_end m cs steps row i ecb c.loop-ecb-test.true c.ecb-item.is) ∷ [])) held.cpus took.1),
+          );
+      stays = λ ordinary options steps kept brings.
+          let done = steps_and steps (of_row options in_end m cs steps (take i row)) in
+          let at = held.kept options steps kept brings in
+          elim c.else-is_some.branch [
+            | else-is_some-via-then-is_some+else-not-in_end w ↦
+                absurd (true≢false (sym w.if-not-in_end.false ∙ ordinary))
+            | else-is_some-via-else-is_some w ↦
+                stays_more options in_end m cs steps row i ecb c.loop-ecb-test.true c.ecb-item.is
+                (held.stays ordinary options steps kept brings)
+                (sym (ap is_some (c.in_ok-exit.ensures.exit options done at.0)) ∙ sym c.is_some.ensures ∙ w.if-is_some.false)
+          ];
+      few = omega (arith, c.in_ok-exit.ensures.few, held.few);
+      counts = λ n h.
+          let at = c.in_ok-exit.ensures.counts (n + c.loop-ecb.ecb-index * STATEMENTS_MAX) (held.counts n h) in
+          (omega (arith, at.0), omega (arith, at.1));
+      cpus = c.in_ok-exit.ensures.cpus ∙ held.cpus;
+    }
+
+pub returns-in_err-exit-clause-counts : goal.returns-in_err-exit-clause-counts
+returns-in_err-exit-clause-counts c = λ n h.
+    let at = c.in_err-exit.ensures.counts (n + c.loop-ecb.ecb-index * STATEMENTS_MAX) (c.loop-ecb.invariant.counts n h) in
+    let inside : c.loop-ecb.ecb-index < ECBS_MAX =
+    omega (arith, c.loop-ecb-test.true, ap length c.deref-ecb-items.ensures.value, c.in_ok-row.ensures.few) in
+    (omega (arith, at.0, inside), omega (arith, at.1, inside))
+
+pub returns-then-not-in_end-clause-counts : goal.returns-then-not-in_end-clause-counts
+returns-then-not-in_end-clause-counts c = λ n h.
+    let at = c.in_ok-exit.ensures.counts (n + c.loop-ecb.ecb-index * STATEMENTS_MAX) (c.loop-ecb.invariant.counts n h) in
+    let inside : c.loop-ecb.ecb-index < ECBS_MAX =
+    omega (arith, c.loop-ecb-test.true, ap length c.deref-ecb-items.ensures.value, c.in_ok-row.ensures.few) in
+    (omega (arith, at.0, inside), omega (arith, at.1, inside))
+
+pub returns-then-not-in_end-clause-taken : goal.returns-then-not-in_end-clause-taken
+returns-then-not-in_end-clause-taken c = λ options steps kept brings.
+    let in_end = c.args.in_end in
+    let m = form_of_context c.args.context.now in
+    let cs = map form_of_clause c.args.self.now.clauses.items in
+    let shapes = shapes_of c.args.self.now.shapes in
+    let row = c.deref-ecb-items.result.now in
+    let i = c.loop-ecb.ecb-index in
+    let ecb = c.ecb-item.result in
+    let held = c.loop-ecb.invariant in
+    let ordinary = c.if-not-in_end.true in
+    let done = steps_and steps (of_row options in_end m cs steps (take i row)) in
+    let at = held.kept options steps kept brings in
+    let exits = sym (ap is_some (c.in_ok-exit.ensures.exit options done at.0)) ∙ sym c.is_some.ensures ∙ c.if-is_some.true in
+    let next = steps_step options in_end m cs steps row i ecb c.loop-ecb-test.true c.ecb-item.is
+    ∙ ap (steps_and steps) (sym (taken_through options in_end m cs steps c.args.self.now.ecbs.items row
+    (c.deref-ecb-items.ensures.value ∙ c.in_ok-row.ensures.all) ordinary i ecb c.loop-ecb-test.true c.ecb-item.is
+    (held.stays ordinary options steps kept brings) exits)) in
+    let took = c.in_ok-exit.ensures.taken options done at.0
+    (subst (λ n. Brings n shapes options c.loop-ecb.happened.items done) (sym held.cpus) at.1) in (
+      subst (λ xs. IsKeptAt options xs c.take_one.new.kept) next took.0,
+      subst (Brings c.args.kept.now.cpus shapes options c.take_one.new.happened.items) next
+          (subst (λ n. Brings n shapes options c.take_one.new.happened.items
+          (done ++ takes (taken_there options in_end m cs steps row i ecb c.loop-ecb-test.true c.ecb-item.is) ∷ [])) held.cpus took.1),
+    )
+
+pub returns-then-not-in_end-clause-exit : goal.returns-then-not-in_end-clause-exit
+returns-then-not-in_end-clause-exit c = λ ordinary options steps kept brings.
+    let in_end = c.args.in_end in
+    let m = form_of_context c.args.context.now in
+    let cs = map form_of_clause c.args.self.now.clauses.items in
+    let row = c.deref-ecb-items.result.now in
+    let i = c.loop-ecb.ecb-index in
+    let ecb = c.ecb-item.result in
+    let held = c.loop-ecb.invariant in
+    let done = steps_and steps (of_row options in_end m cs steps (take i row)) in
+    let at = held.kept options steps kept brings in
+    let exit = c.in_ok-exit.ensures.exit options done at.0 in
+    exit
+    ∙ exit_there options in_end m cs steps c.args.self.now.ecbs.items row
+    (c.deref-ecb-items.ensures.value ∙ c.in_ok-row.ensures.all) ordinary i ecb c.loop-ecb-test.true c.ecb-item.is
+    (held.stays ordinary options steps kept brings) (sym (ap is_some exit) ∙ sym c.is_some.ensures ∙ c.if-is_some.true)
 
 pub returns-clause-taken : goal.returns-clause-taken
-returns-clause-taken c =
+returns-clause-taken c = λ options steps kept brings.
+    let in_end = c.args.in_end in
     let m = form_of_context c.args.context.now in
     let cs = map form_of_clause c.args.self.now.clauses.items in
-    let all : take c.loop-ecb.ecb-index c.deref-ecb-items.result.now ≡ c.args.self.now.ecbs.items =
-    take_all c.loop-ecb.ecb-index c.deref-ecb-items.result.now (omega (arith, c.loop-ecb-test.false))
-    ∙ c.deref-ecb-items.ensures.value in
-    subst
-    (λ es. AddsTakings (shapes_of c.args.self.now.shapes) m.firing.cpu (taken c.args.in_end m cs es)
-    c.args.happened.now.items c.loop-ecb.happened.items) all c.loop-ecb.invariant.adds
+    let shapes = shapes_of c.args.self.now.shapes in
+    let row = c.deref-ecb-items.result.now in
+    let held = c.loop-ecb.invariant in
+    let all = take_all c.loop-ecb.ecb-index row c.loop-ecb-test.false in
+    let at = held.kept options steps kept brings in
+    let whole = ap (λ es. steps_and steps (of_row options c.args.in_end m cs steps es)) all
+    ∙ ap (steps_and steps) (sym (taken_all options in_end m cs steps c.args.self.now.ecbs.items row
+    (c.deref-ecb-items.ensures.value ∙ c.in_ok-row.ensures.all)
+    (λ ordinary. ap (λ es. first_exit (of_row options c.args.in_end m cs steps es)) (sym all)
+    ∙ held.stays ordinary options steps kept brings))) in (
+      subst (λ xs. IsKeptAt options xs c.loop-ecb.kept) whole at.0,
+      subst (Brings c.args.kept.now.cpus shapes options c.loop-ecb.happened.items) whole at.1,
+    )
 
 pub returns-clause-exit : goal.returns-clause-exit
-returns-clause-exit c = λ ordinary.
+returns-clause-exit c = λ ordinary options steps kept brings.
+    let in_end = c.args.in_end in
     let m = form_of_context c.args.context.now in
     let cs = map form_of_clause c.args.self.now.clauses.items in
-    let all : take c.loop-ecb.ecb-index c.deref-ecb-items.result.now ≡ c.args.self.now.ecbs.items =
-    take_all c.loop-ecb.ecb-index c.deref-ecb-items.result.now (omega (arith, c.loop-ecb-test.false))
-    ∙ c.deref-ecb-items.ensures.value in
-    c.loop-ecb.invariant.exit ∙ ap (exited c.args.in_end m cs) all
-    ∙ exit_all c.args.in_end m cs c.args.self.now.ecbs.items ordinary
-    ∙ ap (λ b. first_exit (taken b m cs c.args.self.now.ecbs.items)) ordinary
+    let row = c.deref-ecb-items.result.now in
+    let held = c.loop-ecb.invariant in
+    let all = take_all c.loop-ecb.ecb-index row c.loop-ecb-test.false in
+    sym (exit_is options in_end m cs steps c.args.self.now.ecbs.items row
+    (c.deref-ecb-items.ensures.value ∙ c.in_ok-row.ensures.all) ordinary
+    ∙ ap (λ es. first_exit (of_row options c.args.in_end m cs steps es)) (sym all)
+    ∙ held.stays ordinary options steps kept brings)
+
+pub returns-clause-counts : goal.returns-clause-counts
+returns-clause-counts c = λ n h.
+    let at = c.loop-ecb.invariant.counts n h in
+    let inside : c.loop-ecb.ecb-index ≤ ECBS_MAX =
+    omega (arith, c.loop-ecb.auto.ecb-index-end, ap length c.deref-ecb-items.ensures.value, c.in_ok-row.ensures.few) in
+    (omega (arith, at.0, inside), omega (arith, at.1, inside))

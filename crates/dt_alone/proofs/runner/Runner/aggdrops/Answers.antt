@@ -34,7 +34,7 @@ returns c = λ account life h.
     let registry = c.args.machine.now.registry in
     let s = set_up account registry life in
     c.loop-store.invariant
-    ∙ all_drops account registry s (phase_of s) c.args.self.now h c.loop-store.store-index registry.cpus
+    ∙ all_drops account registry s (phase_of s) c.args.self.now h.within c.loop-store.store-index
     (omega (
       arith,
       c.loop-store-test.false,

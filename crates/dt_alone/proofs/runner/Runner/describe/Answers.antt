@@ -9,6 +9,6 @@ use Rattle.dt_alone.proofs.runner.Runner.describe.Goals as goal
 pub returns : goal.returns
 returns c = λ account life h.
     let registry = c.args.machine.now.registry in
-    c.reply_to_describe.ensures account life (ap (map form_of_clause) c.deref.ensures.value ∙ h.clauses)
+    c.reply_to_describe.ensures account life (ap (map form_of_clause) c.deref.ensures.value ∙ h.within.clauses)
     (subst (λ (es : List Ecb). AreEcbs (set_up account registry life).clauses (ecbs account registry life) es)
-    (sym c.deref-2.ensures.value) h.ecbs)
+    (sym c.deref-2.ensures.value) h.within.ecbs)

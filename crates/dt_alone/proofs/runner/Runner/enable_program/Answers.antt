@@ -20,7 +20,7 @@ returns-in-Ok c = λ account life k off.
     ∙ ap (λ es. r.programs.ecbs.items ++ map (placed_after (length r.programs.clauses.items)) es)
     c.deref.ensures.value)
     (ap shapes_of c.in_ok-extend-in-Ok.ensures.shapes ∙ c.in_ok-shapes-in-Ok.ensures)
-    (record { account = refl; seen = refl; since = refl }) refl refl refl refl
+    (record { account = refl; seen = refl; since = refl }) refl refl refl refl refl
 
 pub returns-in-Some : goal.returns-in-Some
 returns-in-Some c = λ account life k off.
@@ -35,15 +35,18 @@ returns-in-Some c = λ account life k off.
       two.0,
       record {
         has = record {
-          same_account = h.same_account;
-          options = h.options;
-          clauses = h.clauses;
-          ecbs = h.ecbs;
-          shapes = h.shapes;
-          standing = h.standing;
-          idle = h.idle;
-          seen = h.seen;
-          brings = h.brings;
+          within = record {
+            same_account = h.within.same_account;
+            options = h.within.options;
+            clauses = h.within.clauses;
+            ecbs = h.within.ecbs;
+            shapes = h.within.shapes;
+            standing = h.within.standing;
+            idle = h.within.idle;
+            seen = h.within.seen;
+            brings = h.within.brings;
+          };
+          kept = h.kept;
         };
         counted = two.1.counted;
       },

@@ -13,5 +13,5 @@ returns c =
     (λ reply h. λ account life has.
     subst
     (λ (a : Account). RepliesInQuota a c.args.machine.now.registry life (Ok (list (description_of c.args.text.now)))
-    (answer_of reply)) has.same_account (h life))
+    (answer_of reply)) has.within.same_account (h life))
     c.reply_to_list.ensures

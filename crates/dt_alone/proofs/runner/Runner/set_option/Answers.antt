@@ -13,7 +13,7 @@ returns-in-Some c = λ account registry life k.
     (sym c.is_inactive.ensures ∙ c.if-not-is_inactive.false))
     (c.in-Some.ensures ∙ ap (λ name. option_map (with_setting (form_of_options c.args.self.now.options))
     (setting_of name c.args.value.now)) c.as_str.ensures.value)
-    (record { account = refl; seen = refl; since = refl }) refl refl refl refl
+    (record { account = refl; seen = refl; since = refl }) refl refl refl refl refl
 
 pub returns-in-None : goal.returns-in-None
 returns-in-None c = λ account registry life k.

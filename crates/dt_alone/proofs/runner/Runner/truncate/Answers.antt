@@ -17,13 +17,13 @@ returns c = λ account registry life k.
     let old = c.args.self.now in
     let a = c.in-Some.named.aggregation in
     let is : known account registry life name ≡ Some a =
-    sym (c.in-Some.ensures.is ∙ ap (λ shapes. aggregation_of shapes name) k.has.shapes) in
+    sym (c.in-Some.ensures.is ∙ ap (λ shapes. aggregation_of shapes name) k.has.within.shapes) in
     elim c.if-not-is_inactive.branch [
       | then-not-is_inactive+in_ok-push w ↦ subst (λ (new : Runner). Answers account registry life (trunc name) Done new)
           (sym w.self-is)
           (trunc_done account registry life old k name a _
           (begun account registry life old k (sym c.is_inactive.ensures ∙ w.if-not-is_inactive.true)) is
-          refl refl refl refl refl w.in_ok-push.ensures.items refl)
+          refl refl refl refl refl w.in_ok-push.ensures.items refl refl)
       | else-not-is_inactive w ↦ subst (λ (new : Runner). Answers account registry life (trunc name) Done new)
           (sym w.self-is)
           (trunc_idle account registry life old k name a

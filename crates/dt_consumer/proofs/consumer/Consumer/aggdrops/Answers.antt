@@ -14,7 +14,7 @@ returns-in-Some c =
     let registry = c.args.machine.now.registry in
     let s = set_up account registry life in
     let t = traced account registry s c.args.self.now m.stands.keeps c.in-Some.tracing c.in-Some.is in
-    h (given_in account registry s) t.stores ∙ aggdrops_told account registry life c.in-Some.tracing t)
+    h (given_in account registry s) t.processors.stores ∙ aggdrops_told account registry life c.in-Some.tracing t)
     c.aggdrops.ensures
 
 pub returns-in_ok-vec-in-None : goal.returns-in_ok-vec-in-None

@@ -9,6 +9,8 @@ use Rattle.dt_consumer.proofs.processors.Processors.trunc.Given as goal
 abbrev pub invariant-loop-cpu : goal.invariant-loop-cpu
 invariant-loop-cpu l = record {
   all : l.self.all ≡ l.fn.self.all;
+  locals : l.self.locals ≡ l.fn.self.locals;
+  specs : l.self.specs ≡ l.fn.self.specs;
   len : length l.self.stores.items ≡ length l.fn.self.stores.items;
   given : (pasts : ℕ → stores.Past) → AreGiven pasts l.fn.self.stores.items
       → AreGiven (truncated_to l.aggregation pasts l.cpu) l.self.stores.items;

@@ -16,7 +16,7 @@ returns-in_default-clause-traces c = λ s same own kept shaped room.
     let fired = c.in_ok-tracing.ensures.fired s same own kept shaped room in
     becomes account registry (with_event fresh began) _ _
     (happens_on account registry fresh began
-    (end_is account registry (with_event fresh began) began c.in_ok-tracing.exit (0 == c.args.options.histsize) fired.1
+    (end_is account registry fresh began c.in_ok-tracing.exit (0 == c.args.options.histsize) fired.1
     (ap (λ (o : OptionsForm). 0 == o.histsize) (sym same))
     ∙ sym c.after.ensures ∙ c.in_default.is))
     fired.0
@@ -30,7 +30,7 @@ returns-clause-traces c = λ s same own kept shaped room.
     let fired = c.in_ok-tracing.ensures.fired s same own kept shaped room in
     becomes account registry (with_event next (ended c.in-Some.end)) _ _
     (happens_last account registry fresh began c.in-Some.end
-    (end_is account registry next began c.in_ok-tracing.exit (0 == c.args.options.histsize) fired.1
+    (end_is account registry fresh began c.in_ok-tracing.exit (0 == c.args.options.histsize) fired.1
     (ap (λ (o : OptionsForm). 0 == o.histsize) (sym same))
     ∙ sym c.after.ensures ∙ c.in-Some.is))
     (c.finish.ensures.ended next fired.0 (ap (map form_of_clause) c.clauses.ensures.value ∙ own))

@@ -2,25 +2,22 @@
 use Rattle.std.proofs.Common.{◌≡◌, All, ◌+◌, ◌*◌, ◌<◌, ◌==◌, ℕ, IfSome, filter, slice_get, [], length, map, refl, sym, ap}
 use Rattle.std.proofs.Common.{◌∙◌, subst, arith}
 use Rattle.std.specs.Option.{option_copied}
-use Rattle.dt_ecb.specs.declared.limits.TheConstants.{ECBS_MAX}
 use Rattle.dt_ecb.specs.Forms.{shapes_of}
 use Rattle.dt_lang.specs.Program.{form_of_clause}
 use Rattle.dt_cred.specs.declared.firing.Firing.{Firing}
-use Rattle.dt_life.specs.Forms.{form_of_options}
 use Rattle.dt_life.specs.Life.{shapes_in, since_then}
 use Rattle.dt_life.specs.Options.{OptionsForm}
-use Rattle.dt_consumer.specs.Counts.{GIVES_MAX}
+use Rattle.dt_consumer.specs.Counts.{COMES_MAX, GIVES_MAX}
 use Rattle.dt_consumer.specs.Placing.{IsPlaced}
 use Rattle.dt_consumer.specs.Uses.{AreUses}
 use Rattle.dt_consumer.proofs.Giving.{uses_long}
 use Rattle.dt_life.specs.Takings.{began}
 use Rattle.dt_machine.specs.Context.{ContextForm}
 use Rattle.dt_life.specs.declared.limits.TheConstants.{BEGIN}
-use Rattle.dt_consumer.proofs.Counted.{no_more, none_more}
-use Rattle.dt_consumer.proofs.Stores.{fired_at}
-use Rattle.dt_life.specs.laws.Stores.{new_given}
+use Rattle.dt_consumer.proofs.Counted.{fails_more, none_more}
+use Rattle.dt_consumer.proofs.Tallying.{at_most_more}
 use Rattle.dt_life.specs.laws.Contexts.{own_is}
-use Rattle.dt_consumer.proofs.Tracings.{ListOf, new_taken, list_at, lists_kept, lists_placed, placed_at, two_there}
+use Rattle.dt_consumer.proofs.Tracings.{ListOf, fired_at, list_at, lists_kept, lists_placed, placed_at, since_moved, two_there}
 use Rattle.dt_consumer.proofs.tracing.Tracing.begun.Goals as goal
 
 pub invariant_of-tracing : goal.invariant_of-tracing
@@ -41,8 +38,10 @@ invariant_of-tracing c = record {
       c.ecbs.ensures.placed) c.in_ok-lists.ensures.lists;
   few = c.args.options.few;
   in_history = c.args.options.some;
-  counted = no_more _ (ECBS_MAX * (0 + 1)) c.take-exit.new.self.all.items (omega arith)
+  counted = at_most_more _ (COMES_MAX * (0 + 1)) c.take-exit.new.self.all.items (omega arith)
       (c.take-exit.ensures.counts 0 c.in_ok-processors.ensures.counts);
+  failed = fails_more _ (COMES_MAX * (0 + 1)) c.take-exit.new.self (omega arith)
+      (c.take-exit.ensures.fails 0 c.in_ok-processors.ensures.fails);
   given = none_more _ (GIVES_MAX * (0 + 1)) c.take-exit.new.self.stores.items (omega arith)
       (c.take-exit.ensures.gives 0 c.in_ok-processors.ensures.gives);
 }
@@ -72,21 +71,20 @@ returns-clause-fired c = λ s same own kept shaped room.
     subst (λ shapes. AreUses shapes s.clauses c.in_ok-uses.uses.items) shaped
     (subst (λ cs. AreUses (shapes_of c.args.programs.now.shapes) cs c.in_ok-uses.uses.items)
     (ap (map form_of_clause) c.clauses.ensures.value ∙ own) c.in_ok-uses.ensures) in
-    let fired = fired_at account registry fresh began m list c.clauses-2.result.now c.deref.result.now
-    c.in_ok-processors.processors c.take-exit.new.self c.take-exit.result tt at refl own_clauses
-    (subst (AreUses (shapes_in s) s.clauses) (sym c.deref.ensures.value) used) its (λ cpu. refl)
-    (new_taken account registry s (form_of_options c.args.options) c.args.reserve
-    c.in_ok-processors.processors.all.items same room c.in_ok-processors.ensures.empty)
-    (new_given account registry s c.args.options.aggsize c.in_ok-processors.processors.stores.items
-    (ap (λ (o : OptionsForm). o.aggsize) same) c.in_ok-processors.ensures.fresh)
-    c.take-exit.ensures.taken c.take-exit.ensures.exit c.take-exit.ensures.given in (
+    let fresh_ones = since_moved account registry s [] [] c.in_ok-processors.processors
+    (c.in_ok-processors.ensures.after account registry s same room) in
+    let fired = fired_at account registry fresh began m list c.take-exit.new.self c.take-exit.result tt at refl its
+    (λ cpu. refl)
+    (c.take-exit.ensures.after account registry fresh []
+    (record { clauses = own_clauses; uses = subst (AreUses (shapes_in s) s.clauses) (sym c.deref.ensures.value) used }) fresh_ones (λ cpu. refl))
+    (c.take-exit.ensures.exit account registry fresh []
+    (record { clauses = own_clauses; uses = subst (AreUses (shapes_in s) s.clauses) (sym c.deref.ensures.value) used }) fresh_ones (λ cpu. refl)) in (
       record {
         lists = lists;
         all_lists = omega (arith, c.in_ok-lists.ensures.len, ap length c.probes.ensures.value);
-        processors = fired.taken;
+        processors = fired.after;
         all_processors = omega (arith, c.take-exit.ensures.len, c.in_ok-processors.ensures.len, c.cpus.ensures.value);
         uses = used;
-        stores = fired.given;
         history = ap (λ (o : OptionsForm). o.histsize) same;
         seen = refl;
         standing = refl;

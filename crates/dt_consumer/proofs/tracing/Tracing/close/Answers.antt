@@ -1,8 +1,9 @@
 -- Tracing ends without a cause where it goes on.
-use Rattle.std.proofs.Common.{refl}
+use Rattle.std.proofs.Common.{◌∷◌, refl, subst, sym}
 use Rattle.dt_life.specs.Takings.{closed}
-use Rattle.dt_consumer.proofs.Snapping.{untouched}
-use Rattle.dt_life.specs.laws.Stores.{gave_none}
+use Rattle.dt_life.specs.laws.Tracings.{steps_close}
+use Rattle.dt_consumer.specs.Keeps.{AreAfter}
+use Rattle.dt_consumer.proofs.Tracings.{since_moved}
 use Rattle.dt_consumer.proofs.tracing.Tracing.close.Goals as goal
 
 pub returns-then-is_running-clause-running : goal.returns-then-is_running-clause-running
@@ -11,10 +12,10 @@ returns-then-is_running-clause-running c = λ account registry s t off.
     record {
       lists = t.lists;
       all_lists = t.all_lists;
-      processors = λ cpu. untouched account registry s closed own.all.items cpu refl refl (t.processors cpu);
+      processors = since_moved account registry s (closed ∷ s.since) _ own
+          (subst (λ steps. AreAfter account registry s steps own) (sym (steps_close account registry s)) t.processors);
       all_processors = t.all_processors;
       uses = t.uses;
-      stores = gave_none account registry s closed own.stores.items (λ cpu. refl) t.stores;
       history = t.history;
       seen = t.seen;
       standing = refl;

@@ -1,7 +1,7 @@
 -- What is to be shown of `finish`.
 use Rattle.std.proofs.Common.{List, sym, ap, ◌∙◌, refl, inl, inr}
 use Rattle.dt_expr.specs.Form.{form_of}
-use Rattle.dt_lang.specs.machine.ExpressionState.{PendingForm, nothing, compares, number_alone, text_alone}
+use Rattle.dt_lang.specs.machine.ExpressionState.{PendingForm, nothing, self_read, arrow_read, compares, number_alone, text_alone}
 use Rattle.dt_lang.specs.machine.ExpressionView.{pending_forms, hand_of, state_of}
 use Rattle.dt_lang.proofs.PendingLemmas.{done_whole, done_lone, done_waits, number_waits, text_waits}
 use Rattle.dt_lang.proofs.expression.ExpressionReader.finish.Goals as goal
@@ -38,6 +38,8 @@ pub returns-in-Nothing : goal.returns-in-Nothing
 returns-in-Nothing c =
     let held = ap hand_of (sym c.replace.ensures.value) in
     elim c.in-Nothing.is [
-      | inl e ↦ sym (done_waits (state_of c.args.self.now) nothing (held ∙ ap hand_of e) refl)
-      | inr e ↦ sym (done_waits (state_of c.args.self.now) (compares e.0 e.1) (held ∙ ap hand_of e.2) refl)
+      | inl e ↦ sym (done_waits (state_of c.args.self.now) nothing (held ∙ ap hand_of e) (λ pending. refl))
+      | inr (inl e) ↦ sym (done_waits (state_of c.args.self.now) self_read (held ∙ ap hand_of e) (λ pending. refl))
+      | inr (inr (inl e)) ↦ sym (done_waits (state_of c.args.self.now) arrow_read (held ∙ ap hand_of e) (λ pending. refl))
+      | inr (inr (inr e)) ↦ sym (done_waits (state_of c.args.self.now) (compares e.0 e.1) (held ∙ ap hand_of e.2) (λ pending. refl))
     ]

@@ -1,107 +1,161 @@
 -- What the proof of `Taken::add` is told at its goals.
-use Rattle.std.proofs.Common.{◌≡◌, ◌++◌, List, Some, ◌∷◌, [], map, length, sym, ap, ◌∙◌, arith, rules}
-use Rattle.std.proofs.lemmas.List.{append-nil, append_assoc, length-append, length-map}
+use Rattle.std.proofs.Common.{◌≡◌, ◌++◌, List, Some, ◌∷◌, [], map, refl, sym, ap, subst, ◌∙◌, to_z, of_z, w64, rules}
+use Rattle.std.proofs.lemmas.List.{append_assoc, map-append}
 use Rattle.std.specs.Option.{option_map, option_and_then}
 use Rattle.dt_expr.specs.Scene.{SceneForm, scene_of}
-use Rattle.dt_expr.specs.declared.text.Value.{Value}
+use Rattle.dt_locals.specs.History.{locals_after}
+use Rattle.dt_locals.specs.LocalsAreAt.{LocalsAreAt}
 use Rattle.dt_program.specs.Clause.{form_of_argument, form_of_call, form_of_statement}
 use Rattle.dt_program.specs.declared.clause.Argument.{Argument}
 use Rattle.dt_program.specs.declared.clause.Statement.{Statement}
-use Rattle.dt_record.specs.Left.{bytes_of}
-use Rattle.dt_record.specs.Taking.{records, gives, exits, frames_bytes, value_bytes, effect, each, argument_value}
+use Rattle.dt_record.specs.Forms.{form_of_end, form_of_taken}
+use Rattle.dt_record.specs.Left.{left_with}
+use Rattle.dt_record.specs.Taking.{Effect, TakenForm, records, gives, exits, assigns, speculates, ends, committed, discarded}
+use Rattle.dt_record.specs.Taking.{argument_value, assignment_in, draw_effect, each, effect, frames_bytes, identifier, value_bytes}
 use Rattle.dt_record.specs.Taking as spec
-use Rattle.dt_record.proofs.Each.{or_none, each-length}
-use Rattle.dt_record.proofs.LeftMore.{no-bytes}
+use Rattle.dt_record.proofs.Adding.{at_assigned, at_same}
+use Rattle.dt_record.proofs.LeftMore.{by_parts, same_bytes, same_ends, same_exit, same_left, same_spec, same_values}
 use Rattle.dt_record.proofs.parts.Taken.add.Goals as goal
 
--- as many values as keys
-as_many : (scene : SceneForm) (keys : List Argument) (values : List Value)
-    → each (argument_value scene) (map form_of_argument keys) ≡ Some values → length values ≡ length keys
-as_many scene keys values e =
-    each-length (argument_value scene) (map form_of_argument keys) values e ∙ length-map keys form_of_argument
-
-pub push-requires : goal.push-requires
-push-requires c =
-    let given = c.in_ok-put_keys-in-Aggregate.ensures.given in
-    let many : length given.0 ≡ length c.deref.result.now =
-    as_many (scene_of c.args.scene.now) c.deref.result.now given.0 given.1 in
-    let long = ap length given.2 ∙ length-append c.args.self.now.values.items given.0 in
-    let keys = ap length c.deref.ensures.value in
-    let few = c.in-Aggregate.aggregation.few in
-    let room = c.requires.values_room in
-    omega arith
-
 pub returns-in_ok-put_argument-in-Trace-clause-done : goal.returns-in_ok-put_argument-in-Trace-clause-done
-returns-in_ok-put_argument-in-Trace-clause-done c =
-    let written = c.in_ok-put_argument-in-Trace.ensures.written in (
-      records (value_bytes written.0),
-      ap (λ (s : Statement). effect (scene_of c.args.scene.now) (form_of_statement s)) c.in-Trace.is
+returns-in_ok-put_argument-in-Trace-clause-done c = λ past at.
+    let written = c.in_ok-put_argument-in-Trace.ensures.written past.locals at.variables in
+    let old : TakenForm = form_of_taken c.args.self.now in
+    let done : Effect = records (value_bytes written.0) in (
+      done,
+      ap (λ (s : Statement). effect (scene_of c.args.scene.now) past (form_of_statement s)) c.in-Trace.is
           ∙ ap (option_map (λ v. records (value_bytes v))) written.1,
-      written.2,
-      sym (append-nil c.args.self.now.values.items),
-      sym (or_none c.args.self.now.exit),
+      by_parts _ (left_with old done) written.2 (same_spec old) (same_values old) (same_ends old) (same_exit old),
+      at_same past c.args.locals.now c.args.specs.now at,
     )
 
 pub returns-in-Stack-clause-done : goal.returns-in-Stack-clause-done
-returns-in-Stack-clause-done c = (
-  records (frames_bytes c.in-Stack.frames.count c.args.scene.now.firing.now.kstack),
-  ap (λ (s : Statement). effect (scene_of c.args.scene.now) (form_of_statement s)) c.in-Stack.is,
-  c.put_stack.ensures.written,
-  sym (append-nil c.args.self.now.values.items),
-  sym (or_none c.args.self.now.exit),
-)
-
-pub returns-in-Ustack-clause-done : goal.returns-in-Ustack-clause-done
-returns-in-Ustack-clause-done c = (
-  records (frames_bytes c.in-Ustack.frames.count c.args.scene.now.firing.now.ustack),
-  ap (λ (s : Statement). effect (scene_of c.args.scene.now) (form_of_statement s)) c.in-Ustack.is,
-  c.put_stack-in-Ustack.ensures.written,
-  sym (append-nil c.args.self.now.values.items),
-  sym (or_none c.args.self.now.exit),
-)
-
-pub returns-in_ok-status-in-Exit-clause-done : goal.returns-in_ok-status-in-Exit-clause-done
-returns-in_ok-status-in-Exit-clause-done c = (
-  exits c.in_ok-status-in-Exit.status,
-  ap (λ (s : Statement). effect (scene_of c.args.scene.now) (form_of_statement s)) c.in-Exit.is
-      ∙ ap (option_map exits) c.in_ok-status-in-Exit.ensures,
-  no-bytes (bytes_of c.args.self.now.bytes),
-  sym (append-nil c.args.self.now.values.items),
-  search rules,
-)
-
-pub returns-in_ok-given-in-Aggregate-clause-done : goal.returns-in_ok-given-in-Aggregate-clause-done
-returns-in_ok-given-in-Aggregate-clause-done c =
-    let keys = c.in_ok-put_keys-in-Aggregate.ensures.given in
-    let number = c.in_ok-given-in-Aggregate.field-0 in
-    let scene : SceneForm = scene_of c.args.scene.now in
-    let values : each (argument_value scene) (map form_of_argument c.in-Aggregate.aggregation.keys.items)
-    ≡ Some keys.0 =
-    ap (λ (ks : List Argument). each (argument_value scene) (map form_of_argument ks)) (sym c.deref.ensures.value)
-    ∙ keys.1 in
-    let given : spec.given scene (form_of_call c.in-Aggregate.aggregation.call) ≡ Some number =
-    c.in_ok-given-in-Aggregate.ensures in
-    let does : effect scene (form_of_statement c.args.statement.now) ≡ Some (gives (keys.0 ++ number ∷ [])) =
-    ap (λ (s : Statement). effect scene (form_of_statement s)) c.in-Aggregate.is
-    ∙ ap (option_and_then (λ vs. option_map (λ v. gives (vs ++ v ∷ []))
-    (spec.given scene (form_of_call c.in-Aggregate.aggregation.call)))) values
-    ∙ ap (option_map (λ v. gives (keys.0 ++ v ∷ []))) given in (
-      gives (keys.0 ++ number ∷ []),
-      does,
-      no-bytes (bytes_of c.args.self.now.bytes),
-      c.push.ensures.items ∙ ap (λ vs. vs ++ number ∷ []) keys.2
-          ∙ append_assoc c.args.self.now.values.items keys.0 (number ∷ []),
-      sym (or_none c.args.self.now.exit),
+returns-in-Stack-clause-done c = λ past at.
+    let old : TakenForm = form_of_taken c.args.self.now in
+    let done : Effect = records (frames_bytes c.in-Stack.frames.count c.args.scene.now.firing.now.kstack) in (
+      done,
+      ap (λ (s : Statement). effect (scene_of c.args.scene.now) past (form_of_statement s)) c.in-Stack.is,
+      by_parts _ (left_with old done) c.put_stack.ensures.written (same_spec old) (same_values old) (same_ends old)
+          (same_exit old),
+      at_same past c.args.locals.now c.args.specs.now at,
     )
 
-pub returns-in_ok-given-in-Aggregate-clause-values_grow :
-    goal.returns-in_ok-given-in-Aggregate-clause-values_grow
-returns-in_ok-given-in-Aggregate-clause-values_grow c =
-    let given = c.in_ok-put_keys-in-Aggregate.ensures.given in
-    let many : length given.0 ≡ length c.deref.result.now =
-    as_many (scene_of c.args.scene.now) c.deref.result.now given.0 given.1 in
-    let long = ap length given.2 ∙ length-append c.args.self.now.values.items given.0 in
-    let keys = ap length c.deref.ensures.value in
-    let few = c.in-Aggregate.aggregation.few in
-    let more = c.push.ensures.len in
-    omega arith
+pub returns-in-Ustack-clause-done : goal.returns-in-Ustack-clause-done
+returns-in-Ustack-clause-done c = λ past at.
+    let old : TakenForm = form_of_taken c.args.self.now in
+    let done : Effect = records (frames_bytes c.in-Ustack.frames.count c.args.scene.now.firing.now.ustack) in (
+      done,
+      ap (λ (s : Statement). effect (scene_of c.args.scene.now) past (form_of_statement s)) c.in-Ustack.is,
+      by_parts _ (left_with old done) c.put_stack-in-Ustack.ensures.written (same_spec old) (same_values old)
+          (same_ends old) (same_exit old),
+      at_same past c.args.locals.now c.args.specs.now at,
+    )
+
+pub returns-in_ok-status-in-Exit-clause-done : goal.returns-in_ok-status-in-Exit-clause-done
+returns-in_ok-status-in-Exit-clause-done c = λ past at.
+    let old : TakenForm = form_of_taken c.args.self.now in
+    let done : Effect = exits c.in_ok-status-in-Exit.status in (
+      done,
+      ap (λ (s : Statement). effect (scene_of c.args.scene.now) past (form_of_statement s)) c.in-Exit.is
+          ∙ ap (option_map exits) (c.in_ok-status-in-Exit.ensures past.locals at.variables),
+      by_parts _ (left_with old done) (same_bytes old) (same_spec old) (same_values old) (same_ends old) (search rules),
+      at_same past c.args.locals.now c.args.specs.now at,
+    )
+
+pub returns-in_ok-given-in-Aggregate-clause-done : goal.returns-in_ok-given-in-Aggregate-clause-done
+returns-in_ok-given-in-Aggregate-clause-done c = λ past at.
+    let keys = c.in_ok-put_keys-in-Aggregate.ensures.given past.locals at.variables in
+    let number = c.in_ok-given-in-Aggregate.field-0 in
+    let scene : SceneForm = scene_of c.args.scene.now in
+    let values : each (argument_value scene past.locals) (map form_of_argument c.in-Aggregate.aggregation.keys.items)
+    ≡ Some keys.0 =
+    ap (λ (ks : List Argument). each (argument_value scene past.locals) (map form_of_argument ks))
+    (sym c.deref.ensures.value) ∙ keys.1 in
+    let given : spec.given scene past.locals (form_of_call c.in-Aggregate.aggregation.call) ≡ Some number =
+    c.in_ok-given-in-Aggregate.ensures past.locals at.variables in
+    let done : Effect = gives (keys.0 ++ number ∷ []) in
+    let does : effect scene past (form_of_statement c.args.statement.now) ≡ Some done =
+    ap (λ (s : Statement). effect scene past (form_of_statement s)) c.in-Aggregate.is
+    ∙ ap (option_and_then (λ vs. option_map (λ v. gives (vs ++ v ∷ []))
+    (spec.given scene past.locals (form_of_call c.in-Aggregate.aggregation.call)))) values
+    ∙ ap (option_map (λ v. gives (keys.0 ++ v ∷ []))) given in
+    let old : TakenForm = form_of_taken c.args.self.now in (
+      done,
+      does,
+      by_parts _ (left_with old done) (same_bytes old) (same_spec old)
+          (c.push.ensures.items ∙ ap (λ vs. vs ++ number ∷ []) keys.2
+          ∙ append_assoc c.args.self.now.values.items keys.0 (number ∷ []))
+          (same_ends old) (same_exit old),
+      at_same past c.args.locals.now c.args.specs.now at,
+    )
+
+pub returns-in_ok-value-in-Assign-clause-done : goal.returns-in_ok-value-in-Assign-clause-done
+returns-in_ok-value-in-Assign-clause-done c = λ past at.
+    let scene : SceneForm = scene_of c.args.scene.now in
+    let z = c.in_ok-value-in-Assign.value in
+    let same : to_z w64 (of_z w64 z) ≡ z = search rules in
+    let assignment = assignment_in scene c.in-Assign.name z in (
+      assigns assignment,
+      ap (λ (s : Statement). effect scene past (form_of_statement s)) c.in-Assign.is
+          ∙ ap (option_map (λ z. assigns (assignment_in scene c.in-Assign.name z)))
+          (c.in_ok-value-in-Assign.ensures past.locals at.variables),
+      same_left (form_of_taken c.args.self.now) (assigns assignment) refl refl refl refl refl,
+      at_assigned past c.args.locals.now c.args.specs.now at assignment c.set.new.self
+          (subst (λ n. LocalsAreAt (locals_after past.locals (assignment_in scene c.in-Assign.name n)) c.set.new.self) same
+          (c.set.ensures.stands past.locals at.variables)),
+    )
+
+pub returns-in-Draw-clause-done : goal.returns-in-Draw-clause-done
+returns-in-Draw-clause-done c = λ past at.
+    let scene : SceneForm = scene_of c.args.scene.now in
+    let done : Effect = draw_effect scene past c.in-Draw.name in (
+      done,
+      ap (λ (s : Statement). effect scene past (form_of_statement s)) c.in-Draw.is,
+      same_left (form_of_taken c.args.self.now) done refl refl refl refl refl,
+      c.draw.ensures.done past at,
+    )
+
+pub returns-in_ok-eval-in-Speculate-clause-done : goal.returns-in_ok-eval-in-Speculate-clause-done
+returns-in_ok-eval-in-Speculate-clause-done c = λ past at.
+    let old : TakenForm = form_of_taken c.args.self.now in
+    let done : Effect = speculates (identifier c.in_ok-eval-in-Speculate.field-0) in (
+      done,
+      ap (λ (s : Statement). effect (scene_of c.args.scene.now) past (form_of_statement s)) c.in-Speculate.is
+          ∙ ap (option_map (λ z. speculates (identifier z))) (c.in_ok-eval-in-Speculate.ensures past.locals at.variables),
+      by_parts _ (left_with old done) (same_bytes old) (search rules) (same_values old) (same_ends old) (same_exit old),
+      at_same past c.args.locals.now c.args.specs.now at,
+    )
+
+pub returns-in_ok-eval-in-Commit-clause-done : goal.returns-in_ok-eval-in-Commit-clause-done
+returns-in_ok-eval-in-Commit-clause-done c = λ past at.
+    let old : TakenForm = form_of_taken c.args.self.now in
+    let z = c.in_ok-eval-in-Commit.field-0 in
+    let same : to_z w64 (of_z w64 z) ≡ z = search rules in
+    let done : Effect = ends (committed (identifier z)) in (
+      done,
+      ap (λ (s : Statement). effect (scene_of c.args.scene.now) past (form_of_statement s)) c.in-Commit.is
+          ∙ ap (option_map (λ z. ends (committed (identifier z)))) (c.in_ok-eval-in-Commit.ensures past.locals at.variables),
+      by_parts _ (left_with old done) (same_bytes old) (same_spec old) (same_values old)
+          (ap (map form_of_end) c.commit.ensures.items
+          ∙ map-append form_of_end c.args.self.now.ends.items _
+          ∙ ap (λ n. old.ends ++ committed n ∷ []) (c.identifier-id-in-Commit.ensures ∙ ap identifier same))
+          (same_exit old),
+      at_same past c.args.locals.now c.args.specs.now at,
+    )
+
+pub returns-in_ok-eval-in-Discard-clause-done : goal.returns-in_ok-eval-in-Discard-clause-done
+returns-in_ok-eval-in-Discard-clause-done c = λ past at.
+    let old : TakenForm = form_of_taken c.args.self.now in
+    let z = c.in_ok-eval-in-Discard.field-0 in
+    let same : to_z w64 (of_z w64 z) ≡ z = search rules in
+    let done : Effect = ends (discarded (identifier z)) in (
+      done,
+      ap (λ (s : Statement). effect (scene_of c.args.scene.now) past (form_of_statement s)) c.in-Discard.is
+          ∙ ap (option_map (λ z. ends (discarded (identifier z)))) (c.in_ok-eval-in-Discard.ensures past.locals at.variables),
+      by_parts _ (left_with old done) (same_bytes old) (same_spec old) (same_values old)
+          (ap (map form_of_end) c.discard.ensures.items
+          ∙ map-append form_of_end c.args.self.now.ends.items _
+          ∙ ap (λ n. old.ends ++ discarded n ∷ []) (c.identifier-id-in-Discard.ensures ∙ ap identifier same))
+          (same_exit old),
+      at_same past c.args.locals.now c.args.specs.now at,
+    )

@@ -1,0 +1,7 @@
+-- Those of the processors so far.
+use Rattle.std.proofs.Common.{◌≡◌, map, take}
+use Rattle.dt_consumer.proofs.tracing.Tracing.specdrops.Given as goal
+
+abbrev pub invariant-loop-one : goal.invariant-loop-one
+invariant-loop-one l =
+    l.specdrops.items ≡ map (λ processor. processor.specdrops) (take l.one-index l.self.processors.all.items)
