@@ -8,10 +8,10 @@ LINE_MAX = 65_536
 NUMBERS = [0, 1, 2, 3, 4, 5, 7, 8, 9, 16, 31, 32, 33, 63, 64, 65, 127, 128, 255, 256, 512, 513, 1_023, 1_024, 1_025, 4_095, 4_096, 4_097, 65_535, 65_536, 65_537,
            (1 << 20) - 1, 1 << 20, (1 << 20) + 1, (1 << 31) - 1, 1 << 31, (1 << 32) - 1, 1 << 32, (1 << 63) - 1, 1 << 63, (1 << 64) - 1, 1 << 64]
 WORDS = [word.encode() for word in (
-    "cmd option enable go stop snap agg trunc status list describe close name value text cpu probe epid bufsize bufpolicy switch fill ring aggsize histsize "
+    "cmd option enable go stop snap agg trunc status list describe close name value text cpu probe epid bufsize bufpolicy switch fill ring aggsize histsize dynvarsize nspec specsize "
     "cpus accounts processes probes scripts uid privs pid execname tid mode user kernel timestamp args kstack ustack dtrace_user dtrace_proc dtrace_kernel "
     "proc_owner root ann bob joe account line reply long fired open call fire ask publish finish withdraw look offer BEGIN END entry read:entry syscall::: fbt "
-    "profile:::tick-1sec dtrace:::END pid100::: trace stack exit count() sum(arg0) avg(arg0) min(arg0) max(arg0) quantize(arg0) lquantize(arg0,0,10,5) "
+    "profile:::tick-1sec dtrace:::END pid100::: trace stack exit self self->n self->n=1 -> speculation() speculate(1) commit(1) discard(1) count() sum(arg0) avg(arg0) min(arg0) max(arg0) quantize(arg0) lquantize(arg0,0,10,5) "
     "arg0 arg9 arg10 probefunc panic() @a @ @a[execname] stop() raise null true false 1.0 -0 -1 1e9 1e999 010 08 0x 0xff 0x10000000000000000").split()] + [
     b" ", b"\t", b"\r", b"\r\n", b"\n", b"\n\n", b"\0", b"{", b"}", b"[", b"]", b"(", b")", b"{}", b"[]", b"{trace(arg0)}", b'"', b'""', b"'", b",", b":", b";", b"/",
     b"//", b"/*", b"*/", b"\\", b"\\\"", b"\\u0000", b"\\u0041", b"\\ud800", b"\\udc00", b"\\ud83d\\ude00", b"\\n", b"\\/", b"\\x", b"*", b"?", b"[!a-c]", b"[a-]",
@@ -218,7 +218,8 @@ def changed_trail(dice, text):
 
 DESCRIPTIONS = ["read:entry", "syscall:::entry", "syscall::read:entry", ":::", "::", "*", "*:entry", "BEGIN", "END", "dtrace:::END", "profile:::",
                 "fbt:::entry", "pid100:::", "pid*:a:f:entry", "[a-r]ead:entry", "[!x]*:entry", "r?ad:entry", "\\read:entry", "tick-*", "a:::"]
-FIELDS = ["arg0", "arg0", "arg1", "arg2", "arg9", "cpu", "pid", "tid", "uid", "timestamp", "id", "epid"]
+FIELDS = ["arg0", "arg0", "arg1", "arg2", "arg9", "cpu", "pid", "tid", "uid", "timestamp", "id", "epid", "self->n", "self->m", "self->s"]
+IDENTIFIERS = ["1", "1", "2", "self->s", "self->s", "0", "-1", "arg0"]
 TEXTS = ["execname", "execname", "probeprov", "probemod", "probefunc", "probename", '"sh"', '"cron"', '""', '"' + "x" * 31 + '"']
 OPERATORS = ["*", "/", "%", "+", "-", "<<", ">>", "<", "<=", ">", ">=", "==", "!=", "&", "^", "|", "&&", "^^", "||"]
 
@@ -264,7 +265,19 @@ def stacked(dice):
     return f"{dice.choice(['stack', *['ustack'] * 9])}({dice.randint(1, 8)})"
 
 
+def tracked(dice):
+    """A statement of variables and speculations."""
+    kind = dice.randrange(6)
+    if kind < 2:
+        return f"self->{dice.choice('nnms')} = {expression(dice, 1)}"
+    if kind == 2:
+        return f"self->{dice.choice('sssn')} = speculation()"
+    return f"{('speculate', 'commit', 'discard')[kind - 3]}({dice.choice(IDENTIFIERS)})"
+
+
 def statement(dice):
+    if dice.random() < 0.3:
+        return tracked(dice)
     kind = dice.randrange(20)
     if kind < 5:
         return f"trace({expression(dice)})"
@@ -296,7 +309,8 @@ def setting(dice):
     """An option with a value, mostly one that it takes and that is soon met."""
     small = dice.choice([4, 5, 8, 12, 16, 24, 40, 100, 1_000])
     return dice.choice([("bufsize", small), ("bufpolicy", dice.choice(["switch", "fill", "ring"])), ("aggsize", 8 * small), ("histsize", dice.choice([1, 2, 3, 10])),
-                        (dice.choice(["bufsize", "aggsize", "histsize", "other"]), dice.choice([*NUMBERS, -1, 1.5, "ring", None, True]))])
+                        ("dynvarsize", 32 * dice.choice([1, 2, 3])), ("nspec", dice.choice([1, 2, 3])), ("specsize", small),
+                        (dice.choice(["bufsize", "aggsize", "histsize", "dynvarsize", "nspec", "specsize", "other"]), dice.choice([*NUMBERS, -1, 1.5, "ring", None, True]))])
 
 
 # each so often as it is to come; a `close` ends a session, so it is rare
