@@ -32,7 +32,7 @@ pub fn eval(expr: &Expr, scene: &Scene, locals: &Locals) -> Result<i64, EvalFaul
         (λ _. value (scene_of scene.now) past (form_of expr.now) ≡ None) }
 {
     let mut divided_by_zero = false;
-    let number = number_of(expr, &Place { scene, locals }, &mut divided_by_zero);
+    let number = number_of(expr, &EvalPlace { scene, locals }, &mut divided_by_zero);
     if divided_by_zero {
         return Err(EvalFault::DivZero);
     }
@@ -42,7 +42,7 @@ pub fn eval(expr: &Expr, scene: &Scene, locals: &Locals) -> Result<i64, EvalFaul
 /// Where an expression is evaluated: in a scene, where thread-local variables are as they are lent. One word for each step of
 /// an evaluation to hand on.
 #[derive(Clone, Copy)]
-struct Place<'a> {
+struct EvalPlace<'a> {
     scene: &'a Scene<'a>,
     locals: &'a Locals,
 }
@@ -50,7 +50,7 @@ struct Place<'a> {
 /// The number of an expression. Where a division by zero is evaluated the mark is set, and the number means nothing.
 ///
 /// A mark, and no fault at each step: there is nothing to look at between two operators, and a number stays in its register.
-fn number_of(expr: &Expr, place: &Place, divided_by_zero: &mut bool) -> i64
+fn number_of(expr: &Expr, place: &EvalPlace, divided_by_zero: &mut bool) -> i64
     ensures { (past : LocalsPast) → LocalsAreAt past place.now.locals.now
         → IsFound (value (scene_of place.now.scene.now) past (form_of expr.now)) result divided_by_zero.old divided_by_zero.new }
 {
@@ -82,7 +82,7 @@ fn number_of(expr: &Expr, place: &Place, divided_by_zero: &mut bool) -> i64
 }
 
 /// The value of a thread-local variable of the thread in which the probe fired.
-fn local(name: &Name, place: &Place) -> i64
+fn local(name: &Name, place: &EvalPlace) -> i64
     ensures { (past : LocalsPast) → LocalsAreAt past place.now.locals.now
         → result ≡ local_named (scene_of place.now.scene.now) past name.now }
 {
