@@ -63,6 +63,7 @@ impl Principal {
     /// the record: under ring, what it pushes out costs no more than it cost to put.
     ///
     /// Under fill, END's records come last.
+    #[inline(always)]
     pub fn put(&mut self, bytes: &[u8], in_end: bool) -> Put
         requires { drops_of self.old < DROPS_LIMIT }
         ensures stands { (past : BufferPast) → BufferIsAt past self.old → EndLast past in_end

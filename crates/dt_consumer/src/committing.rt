@@ -39,7 +39,9 @@ pub(crate) fn end_speculations(
     }
 }
 
-/// Ends a speculation: a commit takes its parts out, and the identifier is free.
+/// Ends a speculation: a commit takes its parts out, and the identifier is free. Few clauses end one: it stands apart, so that the
+/// others don't have it in their way.
+#[inline(never)]
 fn end_speculation(specs: &mut Specs, all: &mut Vec<Processor>, end: SpecEnd, in_end: bool)
     requires counts { All (AtMost (DROPS_LIMIT - 1)) all.old.items }
     ensures len { vec_len all.new ≡ vec_len all.old }

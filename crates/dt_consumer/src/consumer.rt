@@ -133,6 +133,7 @@ impl Consumer {
 
     /// The same for a firing that the consumer's account is shown, which is all the work of an offer: who looked whom to offer the
     /// firing to has asked for that, so it is asked once.
+    #[inline(always)]
     pub fn offer_shown(&mut self, machine: &Machine, context: &Context) -> bool
         ensures sees { (account : Account) (life : List Item)
             → StandsFor account machine.now.registry self.old life → IsContext machine.now.registry context.now

@@ -114,6 +114,7 @@ impl Processors {
 
     /// Takes the ECBs of the probe that fires, on the processor of the firing, up to the first that exits, and answers
     /// its status. It takes no memory.
+    #[inline(always)]
     pub(crate) fn take(
         &mut self,
         enabled: &Enabled<'_>,
@@ -206,6 +207,7 @@ impl Processors {
 
     /// Takes one ECB, and answers the status that it exits with, if it exits: what it assigns and draws is done, its record goes into the
     /// processor's buffer or to a speculation, then its values into the store, and then speculations end.
+    #[inline(always)]
     fn take_one(
         &mut self,
         enabled: &Enabled<'_>,
@@ -262,6 +264,7 @@ impl Processors {
     }
 
     /// Puts the record that a clause left, if it left one, into a processor's buffer, or under the identifier that it is directed to.
+    #[inline(always)]
     fn put_record(&mut self, cpu: usize, in_end: bool)
         requires there { cpu < vec_len self.old.all }
         requires counts { All (AtMost (DROPS_LIMIT - 1)) self.old.all.items }

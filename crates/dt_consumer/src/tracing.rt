@@ -184,6 +184,7 @@ impl Tracing {
 
     /// Sees a firing: takes the ECBs of its probe, and ends where one exits, or where it is the last of the history.
     /// It takes no memory.
+    #[inline(always)]
     pub(crate) fn see(
         &mut self,
         account: &Account,

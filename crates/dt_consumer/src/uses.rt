@@ -71,6 +71,7 @@ impl Uses {
     }
 
     /// Gives the values that the clause left to the store of their processor. It takes no memory.
+    #[inline(always)]
     pub(crate) fn give(&self, store: &mut AggStore, values: &[Value])
         requires { added_of store.old + STATEMENTS_MAX ≤ ADDED_LIMIT }
         ensures stands { (past : Past) → IsAt past store.old
@@ -95,6 +96,7 @@ impl Use {
     ghost use Rattle.dt_consumer.specs.Uses.{form_of_use};
 
     /// Gives what lies from a place on among the values: the keys, and then the number.
+    #[inline(always)]
     fn give(&self, store: &mut AggStore, values: &[Value], place: usize)
         requires room { added_of store.old < ADDED_LIMIT }
         requires near { place ≤ STATEMENTS_MAX * (KEYS_MAX + 1) }

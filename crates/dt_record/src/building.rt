@@ -30,23 +30,29 @@ pub(crate) fn begin(record: &mut Option<Bytes>, epid: u32, leaves_record: bool)
     ensures { bytes_of record.new ≡ (if leaves_record then Some (epid_bytes epid) else None) }
 {
     if leaves_record {
-        empty(record);
         let mut bytes = [0; EPID_SIZE];
         BigEndian::write_u32(&mut bytes, epid);
-        put(record, &bytes);
+        begin_with(record, &bytes);
     } else if record.is_some() {
         // Only here: a `None` is written over the whole room.
         *record = None;
     }
 }
 
-/// Empties the record. The room of the one before it serves again.
-fn empty(record: &mut Option<Bytes>)
-    ensures { bytes_of record.new ≡ Some [] }
+/// Begins the record with an EPID's bytes. The room of the one before it serves again, and its first bytes are written over: of a
+/// record that was an EPID alone nothing is blanked.
+fn begin_with(record: &mut Option<Bytes>, epid: &[u8; EPID_SIZE])
+    ensures { bytes_of record.new ≡ Some epid.now }
 {
     match record {
-        Some(bytes) => bytes.clear(),
-        None => *record = Some(ArrayVec::new()),
+        Some(bytes) if EPID_SIZE <= bytes.len() => {
+            bytes.truncate(EPID_SIZE);
+            bytes.as_mut_slice().copy_from_slice(epid);
+        }
+        _ => {
+            *record = Some(ArrayVec::new());
+            put(record, epid);
+        }
     }
 }
 
