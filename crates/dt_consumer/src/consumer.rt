@@ -155,8 +155,7 @@ impl Consumer {
         if !tracing.wants(firing.cpu, firing.probe) {
             return false;
         }
-        let (clauses, records) = (self.programs.clauses(), self.programs.records());
-        tracing.see(&self.account, machine, clauses, records, context);
+        tracing.see(&self.account, machine, &self.programs, context);
         true
     }
 
@@ -240,8 +239,7 @@ impl Consumer {
         // Always so where it stands for the life after which the `stop` was drafted: its phase is active, and a consumer that
         // never traced is inactive or stopped (`IsUntraced`).
         if let Some(tracing) = &mut self.tracing {
-            let (clauses, records) = (self.programs.clauses(), self.programs.records());
-            tracing.stop(&self.account, machine, clauses, records);
+            tracing.stop(&self.account, machine, &self.programs);
         }
         self.lines = self.lines.saturating_add(1);
     }

@@ -14,7 +14,7 @@ pub(crate) struct Processor {
 }
 
 impl Processor {
-    ghost use Rattle.std.specs.Prelude.{◌≡◌, ◌<◌, ◌≤◌, ◌==◌, [], ◌∷◌, length, if◌then◌else◌, IfOk};
+    ghost use Rattle.std.specs.Prelude.{◌≡◌, ◌+◌, ◌<◌, ◌≤◌, ◌==◌, [], ◌∷◌, length, if◌then◌else◌, IfOk};
     ghost use Rattle.dt_buffer.specs.History.{BufferPast, buffer_after, swap};
     ghost use Rattle.dt_buffer.specs.IsAt.{BufferIsAt, drops_of};
     ghost use Rattle.dt_buffer.specs.Shows.{EndLast};
@@ -45,6 +45,20 @@ impl Processor {
     {
         if !part.is_empty() {
             let _put = self.buffer.put(part, in_end);
+        }
+    }
+
+    /// Counts assignments to thread-local variables that found no room. Few clauses have any: the others read and write no count.
+    pub(crate) fn count_dropped(&mut self, count: u64)
+        requires { self.old.dyndrops + count ≤ DROPS_LIMIT }
+        ensures buffer { self.new.buffer ≡ self.old.buffer }
+        ensures errors { self.new.errors ≡ self.old.errors }
+        ensures dyndrops { self.new.dyndrops ≡ self.old.dyndrops + count }
+        ensures specdrops { self.new.specdrops ≡ self.old.specdrops }
+        ensures counts { AtMostMore count self.old self.new }
+    {
+        if count > 0 {
+            self.dyndrops += count;
         }
     }
 

@@ -7,6 +7,8 @@ use crate::committing::end_speculations;
 use crate::ecb_lists::EcbList;
 use crate::enabled::Enabled;
 use crate::processor::Processor;
+use crate::programs::Programs;
+use crate::uses::Uses;
 use dt_aggstore::{AggStore, Aggregation};
 use dt_cred::Account;
 use dt_ecb::Ecb;
@@ -45,13 +47,15 @@ impl Processors {
     ghost use Rattle.dt_consumer.specs.Counts.{AtMost, COMES_BY_ONE, COMES_MAX, FailsAtMost, GIVES_MAX};
     ghost use Rattle.dt_consumer.specs.Enabling.{IsEnabledBy};
     ghost use Rattle.dt_consumer.specs.Keeps.{AreAfter};
+    ghost use Rattle.dt_consumer.specs.Uses.{AreUses};
+    ghost use Rattle.dt_lang.specs.Program.{form_of_clause};
     ghost use Rattle.dt_consumer.specs.Tallies.{AreTallied, Tally, changed_at, new_tally, with_left, with_records};
     ghost use Rattle.dt_life.specs.Takings.{puts_in};
     ghost use Rattle.dt_cred.specs.declared.account.Account.{Account};
     ghost use Rattle.dt_life.specs.Buffers.{comes_by_steps, reserve_on};
     ghost use Rattle.dt_life.specs.Following.{taking_by, takings_by};
     ghost use Rattle.dt_life.specs.Forms.{form_of_options};
-    ghost use Rattle.dt_life.specs.Life.{SetUp};
+    ghost use Rattle.dt_life.specs.Life.{SetUp, shapes_in};
     ghost use Rattle.dt_life.specs.Takings.{exit_of, first_exit, freed_by, own_context, parts_out};
     ghost use Rattle.dt_life.specs.TracingSteps.{TracingStep, steps_and, takes};
     ghost use Rattle.dt_life.specs.Uses.{AreGiven, GivenAtMost};
@@ -173,14 +177,19 @@ impl Processors {
     }
 
     /// Fires END: takes its ECBs, on the first processor, where an exit is passed over. It takes no memory.
+    ///
+    /// Never inlined: what it lends its takings would be made room for at each firing.
+    #[inline(never)]
     pub(crate) fn fire_end(
         &mut self,
         account: &Account,
         machine: &Machine,
-        enabled: &Enabled<'_>,
+        programs: &Programs,
+        uses: &[Uses],
         list: &EcbList,
     )
-        requires placed { All (λ ecb. ecb.clause < length enabled.now.clauses.now) list.now.ecbs.items }
+        requires same { length uses.now ≡ vec_len programs.now.clauses }
+        requires placed { All (λ ecb. ecb.clause < vec_len programs.now.clauses) list.now.ecbs.items }
         requires counts { All (AtMost (DROPS_LIMIT - COMES_MAX)) self.old.all.items }
         requires fails { FailsAtMost (DROPS_LIMIT - COMES_MAX) self.old }
         requires gives { All (GivenAtMost (ADDED_LIMIT - GIVES_MAX)) self.old.stores.items }
@@ -190,11 +199,17 @@ impl Processors {
         ensures gives { (n : ℕ) → All (GivenAtMost n) self.old.stores.items → All (GivenAtMost (n + GIVES_MAX)) self.new.stores.items }
         // who is after some steps is then after the takings of all of END's ECBs too
         ensures after { (s : SetUp) (steps : List TracingStep)
-            → IsEnabledBy s enabled.now → AreAfter account.now machine.now.registry s steps self.old
+            → map form_of_clause programs.now.clauses.items ≡ s.clauses → AreUses (shapes_in s) s.clauses uses.now
+            → AreAfter account.now machine.now.registry s steps self.old
             → IsSomeAnd (own_context account.now machine.now.registry END) (λ m.
             AreAfter account.now machine.now.registry s (steps_and steps
             (takings_by true s.options steps m s.clauses list.now.ecbs.items)) self.new) }
     {
+        let enabled = Enabled {
+            clauses: programs.clauses(),
+            records: programs.records(),
+            uses,
+        };
         let process = own_process(account);
         let firing = own_firing(END);
         let context = Context {
@@ -202,7 +217,7 @@ impl Processors {
             process: &process,
             firing: &firing,
         };
-        self.take_end(enabled, list, &context);
+        self.take_end(&enabled, list, &context);
     }
 
     /// Takes one ECB, and answers the status that it exits with, if it exits: what it assigns and draws is done, its record goes into the
@@ -247,7 +262,7 @@ impl Processors {
             &mut self.specs,
         );
         // the count of drops never falls: by how much it rose was dropped on this processor
-        self.all[cpu].dyndrops += self.locals.drops().saturating_sub(dropped);
+        self.all[cpu].count_dropped(self.locals.drops().saturating_sub(dropped));
         match taken {
             Ok(true) => {
                 self.put_record(cpu, in_end);

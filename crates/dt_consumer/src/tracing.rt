@@ -87,13 +87,7 @@ impl Tracing {
         let Some(end) = End::after(exit, 0, options.histsize) else {
             return Ok(tracing);
         };
-        tracing.finish(
-            end,
-            account,
-            machine,
-            programs.clauses(),
-            programs.records(),
-        );
+        tracing.finish(end, account, machine, programs);
         Ok(tracing)
     }
 
@@ -189,26 +183,24 @@ impl Tracing {
         &mut self,
         account: &Account,
         machine: &Machine,
-        clauses: &[Clause],
-        records: &[bool],
+        programs: &Programs,
         context: &Context,
     )
         requires going { self.old.course ≡ Course.Running }
-        requires same { vec_len self.old.uses ≡ length clauses.now }
-        requires recorded { records.now ≡ leave_records clauses.now }
+        requires same { vec_len self.old.uses ≡ vec_len programs.now.clauses }
         requires there { context.now.firing.now.cpu < vec_len self.old.processors.all }
         requires known { context.now.firing.now.probe < vec_len self.old.lists }
         ensures uses { self.new.uses ≡ self.old.uses }
         // for each set-up that it traces: the firing is seen in it, and END fired where tracing ends by it
         ensures seen { (s : SetUp) (firing : Firing) → IsTracing account.now machine.now.registry s self.old
-            → map form_of_clause clauses.now ≡ s.clauses
+            → map form_of_clause programs.now.clauses.items ≡ s.clauses
             → context_of machine.now.registry firing ≡ Some (form_of_context context.now)
             → IsTracing account.now machine.now.registry
             (happens account.now machine.now.registry s (sees firing)) self.new }
     {
         let enabled = Enabled {
-            clauses,
-            records,
+            clauses: programs.clauses(),
+            records: programs.records(),
             uses: &self.uses,
         };
         let list = &self.lists[context.firing.probe as usize];
@@ -217,7 +209,8 @@ impl Tracing {
         if let Some(end) = End::after(exit, self.seen, self.history) {
             self.course = Course::Over(Some(end));
             let list = &self.lists[END as usize];
-            self.processors.fire_end(account, machine, &enabled, list);
+            self.processors
+                .fire_end(account, machine, programs, &self.uses, list);
         }
     }
 
@@ -227,46 +220,33 @@ impl Tracing {
         end: End,
         account: &Account,
         machine: &Machine,
-        clauses: &[Clause],
-        records: &[bool],
+        programs: &Programs,
     )
         requires going { self.old.course ≡ Course.Running }
-        requires same { vec_len self.old.uses ≡ length clauses.now }
-        requires recorded { records.now ≡ leave_records clauses.now }
+        requires same { vec_len self.old.uses ≡ vec_len programs.now.clauses }
         ensures uses { self.new.uses ≡ self.old.uses }
         ensures ended { (s : SetUp) → IsTracing account.now machine.now.registry s self.old
-            → map form_of_clause clauses.now ≡ s.clauses
+            → map form_of_clause programs.now.clauses.items ≡ s.clauses
             → IsTracing account.now machine.now.registry (with_event s (ends end)) self.new }
     {
         self.course = Course::Over(Some(end));
-        let enabled = Enabled {
-            clauses,
-            records,
-            uses: &self.uses,
-        };
         let list = &self.lists[END as usize];
-        self.processors.fire_end(account, machine, &enabled, list);
+        self.processors
+            .fire_end(account, machine, programs, &self.uses, list);
     }
 
     /// Ends tracing by a `stop`, where it goes on.
-    pub(crate) fn stop(
-        &mut self,
-        account: &Account,
-        machine: &Machine,
-        clauses: &[Clause],
-        records: &[bool],
-    )
-        requires same { vec_len self.old.uses ≡ length clauses.now }
-        requires recorded { records.now ≡ leave_records clauses.now }
+    pub(crate) fn stop(&mut self, account: &Account, machine: &Machine, programs: &Programs)
+        requires same { vec_len self.old.uses ≡ vec_len programs.now.clauses }
         ensures uses { self.new.uses ≡ self.old.uses }
         ensures ended { (s : SetUp) → IsTracing account.now machine.now.registry s self.old
-            → map form_of_clause clauses.now ≡ s.clauses → phase_of s ≡ Active
+            → map form_of_clause programs.now.clauses.items ≡ s.clauses → phase_of s ≡ Active
             → IsTracing account.now machine.now.registry (with_event s (ends End.Stop)) self.new }
     {
         // Always so where the consumer stands for the life after which the `stop` was drafted: its phase is active. Another one,
         // that ended by a firing since, stays as it is.
         if self.is_running() {
-            self.finish(End::Stop, account, machine, clauses, records);
+            self.finish(End::Stop, account, machine, programs);
         }
     }
 

@@ -82,6 +82,9 @@ fn number_of(expr: &Expr, place: &EvalPlace, divided_by_zero: &mut bool) -> i64
 }
 
 /// The value of a thread-local variable of the thread in which the probe fired.
+///
+/// Never inlined: what the lookup keeps on the stack would be made room for at each step of every evaluation.
+#[inline(never)]
 fn local(name: &Name, place: &EvalPlace) -> i64
     ensures { (past : LocalsPast) → LocalsAreAt past place.now.locals.now
         → result ≡ local_named (scene_of place.now.scene.now) past name.now }

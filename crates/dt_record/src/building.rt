@@ -25,6 +25,12 @@ use dt_program::{Argument, Frames};
 /// The bytes of a record.
 type Bytes = ArrayVec<u8, RECORD_MAX>;
 
+/// How many bytes a number takes in a record.
+const NUMBER_SIZE: usize = 8;
+
+/// How many numbers most records hold at most.
+const FEW_NUMBERS: usize = 4;
+
 /// Begins the record with its EPID, where there is to be one. It takes the place of the record before it.
 pub(crate) fn begin(record: &mut Option<Bytes>, epid: u32, leaves_record: bool)
     ensures { bytes_of record.new ≡ (if leaves_record then Some (epid_bytes epid) else None) }
@@ -46,7 +52,7 @@ fn begin_with(record: &mut Option<Bytes>, epid: &[u8; EPID_SIZE])
 {
     match record {
         Some(bytes) if EPID_SIZE <= bytes.len() => {
-            bytes.truncate(EPID_SIZE);
+            shorten(bytes);
             bytes.as_mut_slice().copy_from_slice(epid);
         }
         _ => {
@@ -54,6 +60,20 @@ fn begin_with(record: &mut Option<Bytes>, epid: &[u8; EPID_SIZE])
             put(record, epid);
         }
     }
+}
+
+/// Shortens the record before to an EPID. What a vector drops it blanks: of one word that takes no call, so the few numbers that most
+/// records hold go one by one.
+fn shorten(record: &mut Bytes)
+    requires { EPID_SIZE ≤ array_vec_len record.old }
+    ensures { array_vec_len record.new ≡ EPID_SIZE }
+{
+    if record.len() <= EPID_SIZE + FEW_NUMBERS * NUMBER_SIZE {
+        while EPID_SIZE + NUMBER_SIZE <= record.len() {
+            record.truncate(record.len() - NUMBER_SIZE);
+        }
+    }
+    record.truncate(EPID_SIZE);
 }
 
 /// Adds the value of an argument: a number in eight bytes, the highest first, or a text with its zeros.

@@ -22,7 +22,7 @@ use crate::building::{begin, put_argument, put_stack};
 use crate::parts::{SpecEnd, Taken};
 use crate::values::{given, put_keys};
 use arrayvec::ArrayVec;
-use dt_expr::{EvalFault, Scene, eval};
+use dt_expr::{EvalFault, Scene, Value, eval};
 use dt_locals::Locals;
 use dt_names::Name;
 use dt_program::{STATEMENTS_MAX, Statement};
@@ -92,7 +92,8 @@ impl Taken {
             }
             Statement::Aggregate(aggregation) => {
                 put_keys(&mut self.values, &aggregation.keys, scene, locals)?;
-                self.values.push(given(&aggregation.call, scene, locals)?);
+                let number = given(&aggregation.call, scene, locals)?;
+                self.values.push(Value::Number(number));
             }
             Statement::Assign(name, expr) => {
                 let value = eval(expr, scene, locals)?;

@@ -1,8 +1,9 @@
 //! What a clause's arguments, keys and aggregating statements are worth.
-ghost use Rattle.std.specs.Prelude.{◌≡◌, ◌+◌, ◌≤◌, ◌++◌, List, Some, None, MatchResult, OnOk, OnErr, length, map};
+ghost use Rattle.std.specs.Prelude.{◌≡◌, ◌+◌, ◌<◌, ◌≤◌, ◌++◌, ◌∷◌, [], List, Some, None, MatchResult, OnOk, OnErr, length, map};
 ghost use Rattle.arrayvec.specs.ArrayVec.{array_vec_len};
 ghost use Rattle.dt_expr.specs.Scene.{scene_of, padded, text_bytes};
 ghost use Rattle.dt_expr.specs.declared.text.Value.{Value as ShownValue};
+ghost use Rattle.dt_expr.specs.declared.text.Value.TheVariants as shown_value;
 ghost use Rattle.dt_locals.specs.History.{LocalsPast};
 ghost use Rattle.dt_locals.specs.LocalsAreAt.{LocalsAreAt};
 ghost use Rattle.dt_program.specs.Clause.{form_of_argument, form_of_call};
@@ -31,33 +32,46 @@ pub(crate) fn shown<'a>(text: &'a Text, scene: &Scene<'a>) -> &'a [u8; PADDED_SI
     }
 }
 
-/// The value of an argument.
-fn value_of(argument: &Argument, scene: &Scene, locals: &Locals) -> Result<Value, EvalFault>
+/// The number that an aggregation is given, which is 0 by `count()`.
+pub(crate) fn given(call: &Call, scene: &Scene, locals: &Locals) -> Result<i64, EvalFault>
     ensures { (past : LocalsPast) → LocalsAreAt past locals.now → MatchResult result
-        (λ value. spec.argument_value (scene_of scene.now) past (form_of_argument argument.now) ≡ Some value)
-        (λ _. spec.argument_value (scene_of scene.now) past (form_of_argument argument.now) ≡ None) }
-{
-    match argument {
-        Argument::Number(expr) => Ok(Value::Number(eval(expr, scene, locals)?)),
-        Argument::Text(text) => Ok(text.value(scene)),
-    }
-}
-
-/// What an aggregation is given.
-pub(crate) fn given(call: &Call, scene: &Scene, locals: &Locals) -> Result<Value, EvalFault>
-    ensures { (past : LocalsPast) → LocalsAreAt past locals.now → MatchResult result
-        (λ value. spec.given (scene_of scene.now) past (form_of_call call.now) ≡ Some value)
+        (λ number. spec.given (scene_of scene.now) past (form_of_call call.now) ≡ Some (shown_value.Number number))
         (λ _. spec.given (scene_of scene.now) past (form_of_call call.now) ≡ None) }
 {
     match call {
-        Call::Count => Ok(Value::Number(0)),
+        Call::Count => Ok(0),
         Call::Sum(expr)
         | Call::Avg(expr)
         | Call::Min(expr)
         | Call::Max(expr)
         | Call::Quantize(expr)
-        | Call::Lquantize(expr, _) => Ok(Value::Number(eval(expr, scene, locals)?)),
+        | Call::Lquantize(expr, _) => Ok(eval(expr, scene, locals)?),
     }
+}
+
+/// Adds the value of a key.
+fn put_key(
+    values: &mut ArrayVec<Value, VALUES_MAX>,
+    key: &Argument,
+    scene: &Scene,
+    locals: &Locals,
+) -> Result<(), EvalFault>
+    requires { array_vec_len values.old < VALUES_MAX }
+    ensures long { OnOk result (array_vec_len values.new ≡ array_vec_len values.old + 1) }
+    ensures given { OnOk result ((past : LocalsPast) → LocalsAreAt past locals.now → (value : ShownValue)
+        × (spec.argument_value (scene_of scene.now) past (form_of_argument key.now) ≡ Some value)
+        × (values.new.items ≡ values.old.items ++ value ∷ [])) }
+    ensures fault { OnErr result ((past : LocalsPast) → LocalsAreAt past locals.now
+        → spec.argument_value (scene_of scene.now) past (form_of_argument key.now) ≡ None) }
+{
+    match key {
+        Argument::Number(expr) => {
+            let number = eval(expr, scene, locals)?;
+            values.push(Value::Number(number));
+        }
+        Argument::Text(text) => values.push(text.value(scene)),
+    }
+    Ok(())
 }
 
 /// Adds the values of an aggregation's keys.
@@ -76,7 +90,7 @@ pub(crate) fn put_keys(
         → each (spec.argument_value (scene_of scene.now) past) (map form_of_argument keys.now) ≡ None) }
 {
     for key in keys {
-        values.push(value_of(key, scene, locals)?);
+        put_key(values, key, scene, locals)?;
     }
     Ok(())
 }

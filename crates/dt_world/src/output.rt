@@ -20,7 +20,7 @@ impl Wanted {
     ghost use Rattle.dt_world.specs.Told as told;
 
     /// Whether the trail of a session is wanted: it is on this seat, and the first there or not.
-    fn follows(self, seat: Seat, is_first: bool) -> bool
+    pub(crate) fn follows(self, seat: Seat, is_first: bool) -> bool
         ensures { result ≡ told.follows self seat is_first }
     {
         match self {
@@ -39,7 +39,8 @@ pub(crate) struct Output {
 
 impl Output {
     ghost use Rattle.dt_proto.specs.Asked.{form_lent};
-    ghost use Rattle.dt_world.specs.Told.{Tells, opening_text, reply_told, line_told, firing_told};
+    ghost use Rattle.dt_proto.specs.Trail.{fired_at, item_text};
+    ghost use Rattle.dt_world.specs.Told.{Tells, opening_text, reply_told, line_told};
 
     /// The first session on a seat begins.
     pub(crate) fn open(&mut self, seat: Seat, account: &Account) -> Result<(), AllocError>
@@ -101,20 +102,10 @@ impl Output {
         Ok(())
     }
 
-    /// The session on a seat, which is the first there or not, saw the firing at a place.
-    pub(crate) fn fire(
-        &mut self,
-        alloc: Global,
-        seat: Seat,
-        is_first: bool,
-        at: ScriptPlace,
-    ) -> Result<(), AllocError>
-        ensures { OnOk result (Tells self.old self.new (firing_told self.old.wanted seat is_first at.cpu at.place)) }
+    /// The session whose trail is wanted saw the firing at a place.
+    pub(crate) fn fire(&mut self, alloc: Global, at: ScriptPlace) -> Result<(), AllocError>
+        ensures { OnOk result (Tells self.old self.new (item_text (fired_at at.cpu at.place))) }
     {
-        // a firing is told only in the trail of its own session: among replies it never stands
-        if !self.wanted.follows(seat, is_first) {
-            return Ok(());
-        }
         let line = format!(in alloc; "fired {} {}\n", at.cpu, at.place)?;
         self.text.extend_from_slice(line.as_bytes())
     }

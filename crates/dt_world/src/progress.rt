@@ -1,12 +1,15 @@
 //! The lines of a replay, taken one by one.
-ghost use Rattle.std.specs.Prelude.{◌≡◌, ◌+◌, ◌<◌, ◌^◌, ◌↔◌, ◌++◌, ◌∷◌, ℕ, List, [], Ok, true, false, IsTrue, IfOk, OnOk, length};
+ghost use Rattle.std.specs.Prelude.{◌≡◌, ◌+◌, ◌<◌, ◌^◌, ◌↔◌, ◌++◌, ◌∷◌, ℕ, List, [], Ok, true, false, IsTrue, IfOk, OnOk, is_some, length};
 ghost use Rattle.dt_proto.specs.Lines.{line_form};
 ghost use Rattle.dt_world.specs.Input.{AreStepLines, IsLineOn};
 ghost use Rattle.dt_world.specs.Progress.{IsAfter, HasTakenLines, IsNamed, with_world};
 ghost use Rattle.dt_world.specs.Replay.{Replayed, after_step_line};
 ghost use Rattle.dt_world.specs.StepLine.{StepLineForm, look_line, call_line, fire_line, form_of_step_line};
 ghost use Rattle.dt_steps.specs.Steps.{opening, asking, finishing, offering};
-ghost use Rattle.dt_steps.specs.World.{number_on};
+ghost use Rattle.dt_machine.specs.Registry.{Registry};
+ghost use Rattle.dt_steps.specs.Stands.{EngineIsAt, first_account};
+ghost use Rattle.dt_steps.specs.World.{World, number_on};
+ghost use Rattle.dt_world.specs.Told.{follows};
 ghost use Rattle.dt_world.specs.declared.output.Wanted.{Wanted};
 
 use crate::output::{Output, Wanted};
@@ -244,11 +247,23 @@ impl<'m> Progress<'m> {
         ensures { OnOk result ((wanted : Wanted) (now : Replayed) → IsAfter wanted machine.now now self.old
             → IsAfter wanted machine.now (with_world now (offering now.world cpu seat)) self.new) }
     {
-        let is_first = self.engine.is_first(seat);
-        match self.engine.offer(machine, cpu, seat) {
-            Some(at) => self.output.fire(alloc, seat, is_first, at),
-            None => Ok(()),
+        let is_followed = self.is_followed(seat);
+        let Some(at) = self.engine.offer(machine, cpu, seat) else {
+            return Ok(());
+        };
+        if !is_followed {
+            return Ok(());
         }
+        self.output.fire(alloc, at)
+    }
+
+    /// Whether what the session on a seat sees is told: its trail is the one that is wanted.
+    fn is_followed(&self, seat: Seat) -> bool
+        ensures { (registry : Registry) (world : World) → EngineIsAt registry world self.now.engine
+            → result ≡ follows self.now.output.wanted seat (is_some (first_account (world.places seat))) }
+    {
+        // among replies no firing stands, and in a trail those of its own session: of others nothing more is asked
+        self.output.wanted.follows(seat, true) && self.engine.is_first(seat)
     }
 }
 

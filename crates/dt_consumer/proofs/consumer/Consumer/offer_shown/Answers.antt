@@ -1,7 +1,6 @@
 -- A firing that is seen is taken, and tracing may end by it.
-use Rattle.std.proofs.Common.{◌≡◌, true, cond, map, refl, ap, ◌∙◌, subst, arith}
+use Rattle.std.proofs.Common.{◌≡◌, true, cond, refl, ap, ◌∙◌, subst, arith}
 use Rattle.dt_cred.specs.declared.account.Account.{Account}
-use Rattle.dt_lang.specs.Program.{form_of_clause}
 use Rattle.dt_consumer.specs.Keeps.{IsTracing, phase_by}
 use Rattle.dt_life.specs.Life.{set_up, happens, is_active, phase_of}
 use Rattle.dt_life.specs.Takings.{seen}
@@ -24,7 +23,7 @@ returns-clause-seen c = λ account life s is shown holds.
     (λ (a : Account). IsTracing a registry own c.in-Some.tracing
     → IsTracing a registry (happens a registry own (seen firing)) c.see.new.self)
     s.keeps.same_account
-    (λ h. c.see.ensures.seen own firing h (ap (map form_of_clause) c.clauses-clauses.ensures.value ∙ s.keeps.clauses)
+    (λ h. c.see.ensures.seen own firing h s.keeps.clauses
     (names_its registry c.args.context.now is)) in
     record {
       keeps = keeps_same account registry next _ _ (ap (λ b. cond b next own) active)

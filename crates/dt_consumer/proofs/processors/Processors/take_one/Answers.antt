@@ -30,7 +30,7 @@ use Rattle.dt_life.specs.Takings.{assignments_of, draws_of, freed_by, parts_out}
 use Rattle.dt_life.specs.TracingSteps.{takes, locals_of, past_of_steps, specs_of}
 use Rattle.dt_life.specs.Uses.{AreGiven, given_then}
 use Rattle.dt_life.specs.laws.Stores.{gave_nothing, gave_there}
-use Rattle.dt_consumer.specs.Counts.{COMES_BY_ONE}
+use Rattle.dt_consumer.specs.Counts.{AtMost, COMES_BY_ONE}
 use Rattle.dt_consumer.specs.Keeps.{tally_after}
 use Rattle.dt_consumer.specs.Tallies.{changed_at, with_left, with_records}
 use Rattle.dt_life.specs.Takings.{puts_in}
@@ -65,12 +65,13 @@ returns-in-Ok-true-clause-after c = λ account registry s steps enabled are none
     ∙ ap (λ b. cond b (leaves form) passed_over) c.in-Ok-true.field-0-test in
     let stands = subst (λ (k : ClauseTaken). TracingAt (past_with past k.effects) known.locals known.specs) same
     (c.take_known-taken.ensures.stands past at) in
-    let counted = known_set account registry s steps in_end m ecb own.all.items c.index_mut.result.now _
+    let counted = known_set account registry s steps in_end m ecb own.all.items c.index_mut.result.now c.count_dropped.new.self
     c.drops-dropped.result c.drops.result c.saturating_sub.result
     (c.drops-dropped.ensures.shows (locals_of s.options steps) are.locals)
     (c.drops.ensures.shows (locals_then (locals_of s.options steps) (assignments_of t)) stands.variables)
-    (omega (arith, c.saturating_sub.ensures)) (omega (arith, c.requires.there)) c.index_mut.ensures.value refl refl refl refl
-    are.each in
+    (omega (arith, c.saturating_sub.ensures)) (omega (arith, c.requires.there)) c.index_mut.ensures.value
+    c.count_dropped.ensures.buffer c.count_dropped.ensures.errors c.count_dropped.ensures.dyndrops
+    c.count_dropped.ensures.specdrops are.each in
     let drawn = specs_then (specs_of s.options steps) (draws_of t) in
     let put = c.put_record.ensures.put drawn (known_tally account registry s steps in_end m ecb) stands.speculations
     (known_last account registry s steps in_end m ecb none cpu) counted in
@@ -159,12 +160,13 @@ returns-in-Ok-false-clause-after c = λ account registry s steps enabled are non
     ∙ ap (λ b. cond b (leaves (form_of_taken known.self)) passed_over) c.in-Ok-false.field-0-test in
     let stands = subst (λ (k : ClauseTaken). TracingAt (past_with past k.effects) known.locals known.specs) same
     (c.take_known-taken.ensures.stands past at) in
-    let counted = known_set account registry s steps in_end m ecb own.all.items c.index_mut.result.now _
+    let counted = known_set account registry s steps in_end m ecb own.all.items c.index_mut.result.now c.count_dropped.new.self
     c.drops-dropped.result c.drops.result c.saturating_sub.result
     (c.drops-dropped.ensures.shows (locals_of s.options steps) are.locals)
     (c.drops.ensures.shows (locals_then (locals_of s.options steps) (assignments_of t)) stands.variables)
-    (omega (arith, c.saturating_sub.ensures)) (omega (arith, c.requires.there)) c.index_mut.ensures.value refl refl refl refl
-    are.each in
+    (omega (arith, c.saturating_sub.ensures)) (omega (arith, c.requires.there)) c.index_mut.ensures.value
+    c.count_dropped.ensures.buffer c.count_dropped.ensures.errors c.count_dropped.ensures.dyndrops
+    c.count_dropped.ensures.specdrops are.each in
     record {
       each = retallied (known_tally account registry s steps in_end m ecb)
           (tally_after account registry s (steps ++ takes t ∷ [])) _
@@ -222,12 +224,13 @@ returns-in-Err-DivZero-clause-after c = λ account registry s steps enabled are 
     sym (ap (λ (k : ClauseTaken). k.outcome) same) ∙ c.in-Err-DivZero.ensures.left past at in
     let stands = subst (λ (k : ClauseTaken). TracingAt (past_with past k.effects) known.locals known.specs) same
     (c.take_known-taken.ensures.stands past at) in
-    let counted = known_set account registry s steps in_end m ecb own.all.items c.index_mut.result.now _
+    let counted = known_set account registry s steps in_end m ecb own.all.items c.index_mut.result.now c.count_dropped.new.self
     c.drops-dropped.result c.drops.result c.saturating_sub.result
     (c.drops-dropped.ensures.shows (locals_of s.options steps) are.locals)
     (c.drops.ensures.shows (locals_then (locals_of s.options steps) (assignments_of t)) stands.variables)
-    (omega (arith, c.saturating_sub.ensures)) (omega (arith, c.requires.there)) c.index_mut.ensures.value refl refl refl refl
-    are.each in
+    (omega (arith, c.saturating_sub.ensures)) (omega (arith, c.requires.there)) c.index_mut.ensures.value
+    c.count_dropped.ensures.buffer c.count_dropped.ensures.errors c.count_dropped.ensures.dyndrops
+    c.count_dropped.ensures.specdrops are.each in
     record {
       each = retallied _ (tally_after account registry s (steps ++ takes t ∷ [])) _
           (abandoned_tally account registry s steps in_end m ecb comes)
@@ -272,6 +275,25 @@ returns-in-Err-DivZero-clause-exit c = λ account registry s steps enabled are.
     sym (ap (λ (k : ClauseTaken). k.outcome) same) ∙ c.in-Err-DivZero.ensures.left past at in
     sym (ap (λ outcome. option_and_then (λ (f : TakenForm). f.exit) (left_in outcome)) comes)
 
+pub count_dropped-requires : goal.count_dropped-requires
+count_dropped-requires c =
+    let own = c.args.self.now.all.items in
+    let cpu = c.args.context.now.firing.now.cpu in
+    let clause = get_or c.args.enabled.now.clauses.now c.args.ecb.clause c.index-enabled-ecb.result in
+    let few : c.saturating_sub.result ≤ STATEMENTS_MAX =
+    omega (
+      arith,
+      c.saturating_sub.ensures,
+      c.drops.ensures.counted,
+      c.drops-dropped.ensures.counted,
+      c.take_known-taken.ensures.dropped,
+      length-map clause.statements.items form_of_statement,
+      clause.few,
+    ) in
+    let at = subst (AtMost (DROPS_LIMIT - COMES_BY_ONE)) (sym c.index_mut.ensures.value)
+    (c.requires.counts cpu c.index_mut.result.now (omega (arith, c.requires.there))) in
+    omega (arith, at.2, few)
+
 pub end_speculations-requires-clause-counts : goal.end_speculations-requires-clause-counts
 end_speculations-requires-clause-counts c =
     let own = c.args.self.now.all.items in
@@ -290,9 +312,14 @@ end_speculations-requires-clause-counts c =
     let n = DROPS_LIMIT - COMES_BY_ONE in
     at_most_more ((n + STATEMENTS_MAX) + 1) (DROPS_LIMIT - STATEMENTS_MAX) c.put_record.new.self.all.items (omega arith)
     (c.put_record.ensures.counts (n + STATEMENTS_MAX)
-    (at_most_set n (n + STATEMENTS_MAX) own cpu c.index_mut.result.now _ (omega arith) (omega (arith, c.requires.there))
-    c.index_mut.ensures.value
-    (λ at. (omega (arith, at.0), omega (arith, at.1), omega (arith, at.2, few), omega (arith, at.3))) c.requires.counts))
+    (at_most_set n (n + STATEMENTS_MAX) own cpu c.index_mut.result.now c.count_dropped.new.self (omega arith)
+    (omega (arith, c.requires.there)) c.index_mut.ensures.value
+    (λ at. (
+      omega (arith, at.0, few, c.count_dropped.ensures.counts.0),
+      omega (arith, at.1, few, c.count_dropped.ensures.counts.1),
+      omega (arith, at.2, few, c.count_dropped.ensures.counts.2),
+      omega (arith, at.3, few, c.count_dropped.ensures.counts.3),
+    )) c.requires.counts))
 
 pub returns-in-Ok-true-clause-counts : goal.returns-in-Ok-true-clause-counts
 returns-in-Ok-true-clause-counts c = λ n h.
@@ -312,9 +339,14 @@ returns-in-Ok-true-clause-counts c = λ n h.
     at_most_more (((n + STATEMENTS_MAX) + 1) + STATEMENTS_MAX) (n + COMES_BY_ONE) c.end_speculations.new.all.items (omega arith)
     (c.end_speculations.ensures.counts ((n + STATEMENTS_MAX) + 1)
     (c.put_record.ensures.counts (n + STATEMENTS_MAX)
-    (at_most_set n (n + STATEMENTS_MAX) own cpu c.index_mut.result.now _ (omega arith) (omega (arith, c.requires.there))
-    c.index_mut.ensures.value
-    (λ at. (omega (arith, at.0), omega (arith, at.1), omega (arith, at.2, few), omega (arith, at.3))) h)))
+    (at_most_set n (n + STATEMENTS_MAX) own cpu c.index_mut.result.now c.count_dropped.new.self (omega arith)
+    (omega (arith, c.requires.there)) c.index_mut.ensures.value
+    (λ at. (
+      omega (arith, at.0, few, c.count_dropped.ensures.counts.0),
+      omega (arith, at.1, few, c.count_dropped.ensures.counts.1),
+      omega (arith, at.2, few, c.count_dropped.ensures.counts.2),
+      omega (arith, at.3, few, c.count_dropped.ensures.counts.3),
+    )) h)))
 
 pub returns-in-Err-DivZero-clause-counts : goal.returns-in-Err-DivZero-clause-counts
 returns-in-Err-DivZero-clause-counts c = λ n h.
@@ -335,6 +367,11 @@ returns-in-Err-DivZero-clause-counts c = λ n h.
     (subst (λ k. cpu < k) (sym (length-set own cpu _)) (omega (arith, c.requires.there)))
     c.index_mut-in-Err-DivZero.ensures.value
     (λ at. (omega (arith, at.0), omega (arith, at.1), omega (arith, at.2), omega (arith, at.3)))
-    (at_most_set n (n + STATEMENTS_MAX) own cpu c.index_mut.result.now _ (omega arith) (omega (arith, c.requires.there))
-    c.index_mut.ensures.value
-    (λ at. (omega (arith, at.0), omega (arith, at.1), omega (arith, at.2, few), omega (arith, at.3))) h)
+    (at_most_set n (n + STATEMENTS_MAX) own cpu c.index_mut.result.now c.count_dropped.new.self (omega arith)
+    (omega (arith, c.requires.there)) c.index_mut.ensures.value
+    (λ at. (
+      omega (arith, at.0, few, c.count_dropped.ensures.counts.0),
+      omega (arith, at.1, few, c.count_dropped.ensures.counts.1),
+      omega (arith, at.2, few, c.count_dropped.ensures.counts.2),
+      omega (arith, at.3, few, c.count_dropped.ensures.counts.3),
+    )) h)

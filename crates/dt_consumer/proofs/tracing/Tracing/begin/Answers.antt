@@ -1,6 +1,5 @@
 -- Tracing goes on after BEGIN, or ends by it.
-use Rattle.std.proofs.Common.{◌∙◌, ◌==◌, [], map, sym, ap}
-use Rattle.dt_lang.specs.Program.{form_of_clause}
+use Rattle.std.proofs.Common.{◌∙◌, ◌==◌, [], sym, ap}
 use Rattle.dt_life.specs.Life.{since_then, with_event}
 use Rattle.dt_life.specs.Options.{OptionsForm}
 use Rattle.dt_life.specs.Takings.{began, ended}
@@ -33,4 +32,4 @@ returns-clause-traces c = λ s same own kept shaped room.
     (end_is account registry fresh began c.in_ok-tracing.exit (0 == c.args.options.histsize) fired.1
     (ap (λ (o : OptionsForm). 0 == o.histsize) (sym same))
     ∙ sym c.after.ensures ∙ c.in-Some.is))
-    (c.finish.ensures.ended next fired.0 (ap (map form_of_clause) c.clauses.ensures.value ∙ own))
+    (c.finish.ensures.ended next fired.0 own)

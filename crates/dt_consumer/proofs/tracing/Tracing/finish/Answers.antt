@@ -36,11 +36,7 @@ returns-clause-ended c = λ s t own.
       all_lists = t.all_lists;
       processors = end_fired account registry s c.args.end list c.fire_end.new.self its
           (c.fire_end.ensures.after s (tracing_steps account registry s)
-          (record {
-            clauses = own;
-            uses = subst (AreUses (shapes_in s) s.clauses) (sym c.deref.ensures.value) t.uses;
-          })
-          t.processors);
+          own (subst (AreUses (shapes_in s) s.clauses) (sym c.deref.ensures.value) t.uses) t.processors);
       all_processors = omega (arith, c.fire_end.ensures.len, t.all_processors);
       uses = t.uses;
       history = t.history;

@@ -3,6 +3,7 @@ use Rattle.std.proofs.Common.{◌≡◌, ◌++◌, List, Some, ◌∷◌, [], ma
 use Rattle.std.proofs.lemmas.List.{append_assoc, map-append}
 use Rattle.std.specs.Option.{option_map, option_and_then}
 use Rattle.dt_expr.specs.Scene.{SceneForm, scene_of}
+use Rattle.dt_expr.specs.declared.text.Value.TheVariants as val
 use Rattle.dt_locals.specs.History.{locals_after}
 use Rattle.dt_locals.specs.LocalsAreAt.{LocalsAreAt}
 use Rattle.dt_program.specs.Clause.{form_of_argument, form_of_call, form_of_statement}
@@ -62,17 +63,19 @@ returns-in_ok-status-in-Exit-clause-done c = λ past at.
       at_same past c.args.locals.now c.args.specs.now at,
     )
 
-pub returns-in_ok-given-in-Aggregate-clause-done : goal.returns-in_ok-given-in-Aggregate-clause-done
-returns-in_ok-given-in-Aggregate-clause-done c = λ past at.
+pub returns-in_ok-number-in-Aggregate-clause-done : goal.returns-in_ok-number-in-Aggregate-clause-done
+returns-in_ok-number-in-Aggregate-clause-done c = λ past at.
     let keys = c.in_ok-put_keys-in-Aggregate.ensures.given past.locals at.variables in
-    let number = c.in_ok-given-in-Aggregate.field-0 in
+    let z = c.in_ok-number-in-Aggregate.number in
+    let same : to_z w64 (of_z w64 z) ≡ z = search rules in
+    let number = val.Number z in
     let scene : SceneForm = scene_of c.args.scene.now in
     let values : each (argument_value scene past.locals) (map form_of_argument c.in-Aggregate.aggregation.keys.items)
     ≡ Some keys.0 =
     ap (λ (ks : List Argument). each (argument_value scene past.locals) (map form_of_argument ks))
     (sym c.deref.ensures.value) ∙ keys.1 in
     let given : spec.given scene past.locals (form_of_call c.in-Aggregate.aggregation.call) ≡ Some number =
-    c.in_ok-given-in-Aggregate.ensures past.locals at.variables in
+    c.in_ok-number-in-Aggregate.ensures past.locals at.variables in
     let done : Effect = gives (keys.0 ++ number ∷ []) in
     let does : effect scene past (form_of_statement c.args.statement.now) ≡ Some done =
     ap (λ (s : Statement). effect scene past (form_of_statement s)) c.in-Aggregate.is
@@ -83,7 +86,8 @@ returns-in_ok-given-in-Aggregate-clause-done c = λ past at.
       done,
       does,
       by_parts _ (left_with old done) (same_bytes old) (same_spec old)
-          (c.push.ensures.items ∙ ap (λ vs. vs ++ number ∷ []) keys.2
+          (c.push.ensures.items ∙ ap (λ n. c.put_keys.new.values.items ++ val.Number n ∷ []) same
+          ∙ ap (λ vs. vs ++ number ∷ []) keys.2
           ∙ append_assoc c.args.self.now.values.items keys.0 (number ∷ []))
           (same_ends old) (same_exit old),
       at_same past c.args.locals.now c.args.specs.now at,
