@@ -163,11 +163,13 @@ pub(crate) fn offer<J: Traced>(
     ensures note { note.new ≡ noted note.old.row note.old.number (row_offered owner.old.knows context.now.firing.now result) }
     ensures met { Meets owner.old.knows note.old }
 {
-    owner.meet(note);
     let is_seen = consumer.offer_context(machine, context);
     if is_seen {
+        // an append shows the note the whole row
         let item = Item::fired(context.firing.cpu, context.firing.place);
         owner.append(note, &item);
+    } else {
+        owner.meet(note); // no append shows it the row
     }
     is_seen
 }

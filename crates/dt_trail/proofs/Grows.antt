@@ -22,11 +22,11 @@ module _ {K : Type 0} (lawful : K → List TrailItem → Type 0) (root : Ptr) (a
 
   -- the first empty cell is set
   pub sets : (id : ℕ) (a : Option K) (n : ℕ) (had ks : List TrailItem) (d : Door) (t : Extent) (hand : Option (Ptr × ℕ × NoSlot)) (spare : Option (Row NoSlot)) (i : ℕ) (x : TrailItem)
-      → 0 < d.len → d.from + i ≡ length ks → i < d.len → whose x ≡ n → IsReal x → lawful acct (ks ++ x ∷ [])
+      → 0 < d.len → d.from + i ≡ length ks → i < d.len → whose x ≡ n → IsReal x → (StartsWith ks had → own n ks ≡ own n had → lawful acct (ks ++ x ∷ []))
       → Allows H id (me (appender a n had ks d t) hand spare) (suc d.block) d.link.ptr i (λ _. code x) (λ _. IsSet x (step (suc d.block) d.link.ptr i (code x) 0) (me (appender a n had ks d t) hand spare) (code x))
   sets id a n had ks d t hand spare i x pos here near mine real ok s h at = (
     in_block lawful root acct s h d i st near,
-    λ _. (w, keeps, tt, kept, (refl, (subst (λ l. StartsWith l had) whole.1 f.had, ap (own n) (sym whole.1) ∙ f.had_own refl refl))),
+    λ _. (w, keeps, tt, kept, (refl, (begins_had, same_own))),
   )
     where
       v : TrailView K
@@ -46,6 +46,13 @@ module _ {K : Type 0} (lawful : K → List TrailItem → Type 0) (root : Ptr) (a
 
       whole : (h.world.keeper ≡ id) × (h.world.items ≡ ks)
       whole = f.owns refl
+
+      -- what the note had begins the row, which has no more of its own
+      begins_had : StartsWith ks had
+      begins_had = subst (λ l. StartsWith l had) whole.1 f.had
+
+      same_own : own n ks ≡ own n had
+      same_own = ap (own n) (sym whole.1) ∙ f.had_own refl refl
 
       bs : List (Row NoSlot)
       bs = h.world.blocks
@@ -81,7 +88,7 @@ module _ {K : Type 0} (lawful : K → List TrailItem → Type 0) (root : Ptr) (a
       shows = subst (ShowsRow (lawful acct) items) (sym flat_is) record {
         room = (let a = room in omega (arith, length-set (flat bs) (length ks) c, length-append ks (x ∷ [])));
         words = words_push (flat bs) ks x c room refl (λ k. h.shows.words k ∙ ap (λ l. code_at l k) whole.1);
-        legal = ok;
+        legal = ok begins_had same_own;
         real = All-push ks x (subst AllReal whole.1 h.shows.real) real;
       }
 

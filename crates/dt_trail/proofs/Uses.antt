@@ -7,7 +7,7 @@ use Rattle.dt_trail.specs.declared.rule.About.{About}
 use Rattle.dt_trail.specs.declared.door.Door.{Door}
 use Rattle.dt_trail.specs.declared.rule.Extent.{Extent}
 use Rattle.dt_trail.specs.declared.rule.TrailView.{TrailView}
-use Rattle.dt_trail.specs.Items.{TrailItem, whose, code, IsReal}
+use Rattle.dt_trail.specs.Items.{TrailItem, whose, code, IsReal, own, StartsWith}
 use Rattle.dt_trail.specs.Insides.{IsDoor}
 use Rattle.dt_trail.specs.Rule.{NoSlot, Kept, Turn, note, appender, owner, maker, nobody, extent_of, with_right, without_right, right_of, maker_after, made, row_ended, IsSet, HasCompared, TurnReads, HasLearnt, IsLast, IsTurned, IsSeen, IsBack, IsFoundAgain, IsPlanned, IsLaid, reviewed, through, door_at, claim, claim_of, informed}
 use Rattle.dt_trail.proofs.Steps as steps
@@ -53,7 +53,7 @@ module _ {K : Type 0} (lawful : K → List TrailItem → Type 0) (key about : Ab
       (seats.lends lawful key.root.ptr key.account id v.account v.note v.knows v.door other w.knows w.door w.extent)
 
   pub sets_as : (id : ℕ) (m : Turn K) (a : Option K) (n : ℕ) (had ks : List TrailItem) (d : Door) (t : Extent) (count : ℕ) (x : TrailItem) (word : ℕ) → word ≡ code x → m.view ≡ appender a n had ks d t → IsDoor d → count ≡ length ks → d.from ≤ count → count < d.from + d.len
-      → whose x ≡ n → IsReal x → lawful key.account (ks ++ x ∷ [])
+      → whose x ≡ n → IsReal x → (StartsWith ks had → own n ks ≡ own n had → lawful key.account (ks ++ x ∷ []))
       → Allows H id m (d.block + 1) d.link.ptr (count - d.from) (λ _. word) (λ _. IsSet x (step (d.block + 1) d.link.ptr (count - d.from) word 0) m word)
   sets_as id m a n had ks d t count x word ew e is at low high mine real ok = subst (λ (w : ℕ). Allows H id m (d.block + 1) d.link.ptr (count - d.from) (λ _. w) (λ _. IsSet x (step (d.block + 1) d.link.ptr (count - d.from) w 0) m w)) (sym ew)
       (subst (λ (u : TrailView K). Allows H id (me u m.hand m.spare) (d.block + 1) d.link.ptr (count - d.from) (λ _. code x) (λ _. IsSet x (step (d.block + 1) d.link.ptr (count - d.from) (code x) 0) (me u m.hand m.spare) (code x))) (sym e)

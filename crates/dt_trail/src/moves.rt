@@ -95,7 +95,10 @@ pub fn set_next<P: Picked, K, L: Law<K>>(
     requires door { (right.me.view.door ≡ door) × IsDoor door }
     requires at { (count ≡ length right.me.view.knows) × (door.from ≤ count) × (count < door.from + door.len) }
     requires item { whose item.now ≡ seat.old.me.view.note }
-    requires lawful { (seat.old.me.view.account ≡ Some inner.now.about.account) × L.lawful inner.now.about.account (right.me.view.knows ++ item.now ∷ []) }
+    requires account { seat.old.me.view.account ≡ Some inner.now.about.account }
+    requires lawful { StartsWith right.me.view.knows seat.old.me.view.knows
+        → own seat.old.me.view.note right.me.view.knows ≡ own seat.old.me.view.note seat.old.me.view.knows
+        → L.lawful inner.now.about.account (right.me.view.knows ++ item.now ∷ []) }
     ensures seat { (seat.new.rows ≡ seat.old.rows) × (seat.new.heap ≡ seat.old.heap) × (seat.new.me ≡ me (note seat.old.me.view.account seat.old.me.view.note (right.me.view.knows ++ item.now ∷ []) door) None None) }
     ensures right { (result.rows ≡ seat.old.rows) × (result.heap ≡ seat.old.heap) × (result.me ≡ me (owner seat.old.me.view.account (right.me.view.knows ++ item.now ∷ []) door right.me.view.extent) None None) }
     ensures met { StartsWith right.me.view.knows seat.old.me.view.knows × (own seat.old.me.view.note right.me.view.knows ≡ own seat.old.me.view.note seat.old.me.view.knows) }

@@ -107,12 +107,13 @@ impl<K, L: Law<K>> TrailOwner<K, L> {
 
     /// Sets the first empty cell to the item, on behalf of the note whose the item is. The note then knows the whole row.
     ///
-    /// It waits for nobody, takes no memory and can't fail. There has to be an empty cell, and the longer row has to be lawful.
+    /// It waits for nobody, takes no memory and can't fail. There has to be an empty cell. The longer row has to be lawful if what the note knows begins the row and
+    /// the row has no further item of the note's. That this is so the rule says at the step, so the note needn't meet the owner before.
     pub fn append(&mut self, note: &mut TrailNote<K, L>, item: &Item)
         requires row { self.old.row ≡ note.old.row }
         requires room { length self.old.knows < self.old.cells }
         requires mine { whose item.now ≡ note.old.number }
-        requires lawful { L.lawful self.old.row.account (self.old.knows ++ item.now ∷ []) }
+        requires lawful { Meets self.old.knows note.old → L.lawful self.old.row.account (self.old.knows ++ item.now ∷ []) }
         ensures owner { self.new ≡ known_row self.old.row (self.old.knows ++ item.now ∷ []) self.old.cells self.old.widened }
         ensures note { note.new ≡ noted note.old.row note.old.number (self.old.knows ++ item.now ∷ []) }
         ensures met { Meets self.old.knows note.old }

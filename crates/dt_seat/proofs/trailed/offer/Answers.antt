@@ -11,18 +11,17 @@ pub append-requires-clause-room : goal.append-requires-clause-room
 append-requires-clause-room g c =
     let told = rw c.requires.machine at c.offer_context-is_seen.ensures.sees in
     let sees = (told _ _ c.requires.kept.stands c.requires.context).0 c.if-is_seen.true in
-    rw c.meet.ensures.owner
-    (firing_has_room c.args.owner.now.row.account g.J.Traced.contents c.args.owner.now.knows _ c.args.owner.now.cells c.requires.kept.legal
-    c.requires.kept.suffice sees)
+    firing_has_room c.args.owner.now.row.account g.J.Traced.contents c.args.owner.now.knows _ c.args.owner.now.cells c.requires.kept.legal
+    c.requires.kept.suffice sees
 
 pub append-requires-clause-lawful : goal.append-requires-clause-lawful
-append-requires-clause-lawful g c =
+append-requires-clause-lawful g c = λ met.
     let told = rw c.requires.machine at c.offer_context-is_seen.ensures.sees in
     let sees = (told _ _ c.requires.kept.stands c.requires.context).0 c.if-is_seen.true in
     let seen = rw c.requires.machine at c.offer_context-is_seen.ensures.seen in
     let stands = seen _ _ c.requires.kept.stands c.requires.context c.if-is_seen.true in
-    let below = below_met _ _ _ _ _ c.requires.note.1 c.meet.ensures.met.1 c.requires.below in
-    rw (c.meet.ensures.owner, c.fired-item.ensures, c.requires.kept.whose_is)
+    let below = below_met _ _ _ _ _ c.requires.note.1 met.1 c.requires.below in
+    rw (c.fired-item.ensures, c.requires.kept.whose_is)
     (trailed_firing g.J.Traced.contents c.args.owner.now.row.account c.args.owner.now c.args.consumer.now c.requires.kept _ _ stands
     c.requires.script sees below).legal
 
@@ -32,8 +31,8 @@ returns-then-is_seen-clause-kept g c =
     let sees = (told _ _ c.requires.kept.stands c.requires.context).0 c.if-is_seen.true in
     let seen = rw c.requires.machine at c.offer_context-is_seen.ensures.seen in
     let stands = seen _ _ c.requires.kept.stands c.requires.context c.if-is_seen.true in
-    let below = below_met _ _ _ _ _ c.requires.note.1 c.meet.ensures.met.1 c.requires.below in
-    rw (c.append.ensures.owner, c.meet.ensures.owner, c.fired-item.ensures)
+    let below = below_met _ _ _ _ _ c.requires.note.1 c.append.ensures.met.1 c.requires.below in
+    rw (c.append.ensures.owner, c.fired-item.ensures)
     (trailed_firing g.J.Traced.contents c.args.owner.now.row.account c.args.owner.now c.args.consumer.now c.requires.kept _ _ stands
     c.requires.script sees below)
 

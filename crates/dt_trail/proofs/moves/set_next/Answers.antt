@@ -3,7 +3,7 @@ use Rattle.dt_trail.specs.Rule.{appender}
 use Rattle.dt_trail.specs.declared.rule.TrailView.{TrailView}
 use Rattle.dt_trail.specs.declared.door.Door.{Door}
 use Rattle.dt_trail.specs.declared.rule.About.{About}
-use Rattle.dt_trail.specs.Items.{TrailItem, whose, code, IsReal}
+use Rattle.dt_trail.specs.Items.{TrailItem, whose, code, IsReal, own, StartsWith}
 use Rattle.dt_trail.proofs.Uses.{sets_as}
 use Rattle.dt_trail.proofs.moves.set_next.Goals as goal
 
@@ -15,7 +15,8 @@ store-requires g c =
     let is : c.lend.new.seat.me.view ≡ appender v.account v.note v.knows w.knows c.args.door w.extent =
     ap (λ m. m.view) j.seat ∙ ap (λ (d : Door). appender v.account v.note v.knows w.knows d w.extent) r.door.0 in
     let x : TrailItem = g.P.Picked.item in
-    let ok = subst (λ (q : About g.row.K.Denot × TrailItem). g.L.Law.lawful q.0.account (w.knows ++ q.1 ∷ [])) (λ i. (sym k.keyed.0 i, sym r.picked i)) r.lawful.1 in (
+    let ok = subst (λ (q : About g.row.K.Denot × TrailItem). StartsWith w.knows v.knows → own v.note w.knows ≡ own v.note v.knows → g.L.Law.lawful q.0.account (w.knows ++ q.1 ∷ []))
+    (λ i. (sym k.keyed.0 i, sym r.picked i)) r.lawful in (
       j.same.0 ∙ r.seat.0.0,
       j.same.1 ∙ r.seat.0.1,
       r.door.1.placed,
