@@ -8,6 +8,7 @@ ghost use Rattle.dt_seat.specs.Trailed.{item_of_line};
 ghost use Rattle.dt_trail.specs.Items.{StartsWith, own};
 
 use crate::answered::LineAnswer;
+use crate::endless::wait_for_ever;
 use crate::hub::Hub;
 use dt_proto::Asked;
 use dt_seat::{HubSite, Session};
@@ -32,25 +33,24 @@ impl<J: HubSite> Hub<J> {
         ensures fronts { IsPrefix session.old.published session.new.published }
     {
         let number = session.seat().number();
+        let mut locked = self.seats[number as usize].lock(rt);
         // that this lock's seat has this number is known of no `Vec` of locks: it is looked at, and never differs
-        'lock: for _ in rt.forever() {
-            let mut locked = self.seats[number as usize].lock(rt);
-            if locked.number().number() == number {
-                let result = locked.ask(
-                    rt,
-                    alloc,
-                    &self.machine,
-                    &self.facts,
-                    &self.chains,
-                    session,
-                    asked,
-                );
-                MutexGuard::unlock(locked);
-                return LineAnswer::of(result);
-            }
+        if locked.number().number() != number {
             MutexGuard::unlock(locked);
+            wait_for_ever(rt);
+            unreachable!()
         }
-        unreachable!()
+        let result = locked.ask(
+            rt,
+            alloc,
+            &self.machine,
+            &self.facts,
+            &self.chains,
+            session,
+            asked,
+        );
+        MutexGuard::unlock(locked);
+        LineAnswer::of(result)
     }
 
     /// Lets a session catch up with its trail, and says how many items it then knows. It takes no lock and waits for nobody.

@@ -11,6 +11,7 @@ mod answered;
 mod asking;
 mod calls;
 mod cpu_seat;
+mod endless;
 mod fault;
 mod firing;
 mod gate;

@@ -8,6 +8,7 @@ ghost use Rattle.dt_seat.specs.Tracked.{AreTracked};
 ghost use Rattle.dt_trail.specs.Items.{StartsWith, TrailItem, own};
 
 use crate::cpu_seat::CpuSeat;
+use crate::endless::wait_for_ever;
 use crate::hub::Hub;
 use dt_chain::ChainReader;
 use dt_seat::{Follower, HubSite, Session};
@@ -39,17 +40,15 @@ impl<J: HubSite> Hub<J> {
             × IsPrefix session.new.published reader.new.told }
     {
         let number = session.seat().number();
+        let mut locked = self.seats[number as usize].lock(rt);
         // that this lock's seat has this number is known of no `Vec` of locks: it is looked at, and never differs
-        'lock: for _ in rt.forever() {
-            let mut locked = self.seats[number as usize].lock(rt);
-            if locked.number().number() == number {
-                locked.meet(rt, &self.facts, &self.chains, session, follower, reader);
-                MutexGuard::unlock(locked);
-                return;
-            }
+        if locked.number().number() != number {
             MutexGuard::unlock(locked);
+            wait_for_ever(rt);
+            unreachable!()
         }
-        unreachable!()
+        locked.meet(rt, &self.facts, &self.chains, session, follower, reader);
+        MutexGuard::unlock(locked);
     }
 
     /// A session and a processor meet: both then know the whole trail and what each other knows, and there is one row in which all firings of the processor so far

@@ -16,6 +16,7 @@ ghost use Rattle.dt_seat.specs.Seats.{ComesOfFiring, KnowsPublication, kept_item
 ghost use Rattle.dt_seat.specs.Tracked.{AreTracked, counts_with};
 ghost use Rattle.dt_trail.specs.Items.{own};
 
+use crate::endless::wait_for_ever;
 use crate::gate::{Gate, Moment};
 use crate::hub::Hub;
 use dt_chain::{ChainReader, Seat, SeatMask};
@@ -54,28 +55,27 @@ impl<J: HubSite> Hub<J> {
         let cpu = context.firing.cpu;
         let number = seat.number();
         gate.at(cpu, number, Moment::Before);
+        let mut locked = self.seats[number as usize].lock(rt);
         // that this lock's seat has this number is known of no `Vec` of locks: it is looked at, and never differs
-        'lock: for _ in rt.forever() {
-            let mut locked = self.seats[number as usize].lock(rt);
-            if locked.number().number() == number {
-                gate.at(cpu, number, Moment::Locked);
-                let held = locked.hold(
-                    rt,
-                    &self.machine,
-                    &self.facts,
-                    &self.chains,
-                    life,
-                    context,
-                    follower,
-                    reader,
-                );
-                MutexGuard::unlock(locked);
-                gate.at(cpu, number, Moment::After);
-                return held;
-            }
+        if locked.number().number() != number {
             MutexGuard::unlock(locked);
+            wait_for_ever(rt);
+            unreachable!()
         }
-        unreachable!()
+        gate.at(cpu, number, Moment::Locked);
+        let held = locked.hold(
+            rt,
+            &self.machine,
+            &self.facts,
+            &self.chains,
+            life,
+            context,
+            follower,
+            reader,
+        );
+        MutexGuard::unlock(locked);
+        gate.at(cpu, number, Moment::After);
+        held
     }
 
     /// Offers a firing to each seat that is named, in order of the seats.
