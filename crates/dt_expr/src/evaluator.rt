@@ -26,11 +26,17 @@ pub enum EvalFault {
 /// Numbers are signed and of 64 bits, and wrap. [`EvalFault::DivZero`] comes exactly where a division or a remainder by
 /// zero is evaluated, which one on the right of `&&` or `||` is only where the left side does not decide. It takes no
 /// memory but the stack, which grows with the depth of the tree.
+///
+/// Inlined: what most clauses evaluate is a number or a variable of the scene, which then takes no call.
+#[inline(always)]
 pub fn eval(expr: &Expr, scene: &Scene, locals: &Locals) -> Result<i64, EvalFault>
     ensures { (past : LocalsPast) → LocalsAreAt past locals.now
         → MatchResult result (λ number. value (scene_of scene.now) past (form_of expr.now) ≡ Some number)
         (λ _. value (scene_of scene.now) past (form_of expr.now) ≡ None) }
 {
+    if let Some(number) = leaf(expr, scene) {
+        return Ok(number);
+    }
     let mut divided_by_zero = false;
     let number = number_of(expr, &EvalPlace { scene, locals }, &mut divided_by_zero);
     if divided_by_zero {
@@ -93,7 +99,7 @@ fn local(name: &Name, place: &EvalPlace) -> i64
     place.locals.get(firing.pid, firing.tid, name)
 }
 
-/// The number of an operand that has no operands itself: a number or a variable of the scene.
+/// The number of an expression that has no operands: a number or a variable of the scene.
 fn leaf(expr: &Expr, scene: &Scene) -> Option<i64>
     ensures { IfSome result (λ number. (past : LocalsPast) → value (scene_of scene.now) past (form_of expr.now) ≡ Some number) }
 {
