@@ -1,9 +1,9 @@
 -- One more record of a ring store: room is made and the record kept, or it is too long.
-use Rattle.std.proofs.Common.{◌≡◌, ℕ, ◌+◌, ◌-◌, ◌<◌, ◌≤◌, Bool, true, false, List, [], ◌∷◌, ◌++◌, length, drop, filter}
+use Rattle.std.proofs.Common.{◌≡◌, ℕ, ◌+◌, ◌-◌, ◌<◌, ◌≤◌, Bool, true, false, List, [], ◌∷◌, ◌++◌, length, drop, take, filter, min}
 use Rattle.std.proofs.Common.{nat_le, nat_lt, slice_get, Some, None, refl, sym, ap, ◌∙◌, subst, ⊎_elim, arith}
 use Rattle.std.specs.List.{concat}
 use Rattle.std.proofs.lemmas.Bool.{cases_lt, le-leb, lt-leb, lt-ltb, le-ltb}
-use Rattle.std.proofs.lemmas.List.{append-nil, length-append, length_push, drop_all, drop_at}
+use Rattle.std.proofs.lemmas.List.{append-nil, length_push, drop_all, drop_at, take_all}
 use Rattle.std.proofs.lemmas.List.Elements.{filter-append}
 use Rattle.circular_buffer.specs.Buffer.{Buffer, buffer, keep_last}
 use Rattle.dt_buffer.proofs.Endings.{ends_more, kept_more, lengths_more, some_ends, room_more, room_all, lengths_within}
@@ -181,16 +181,18 @@ module _ (size : ℕ) (attempts : List (List ℕ)) (attempt : List ℕ) (old mid
     (room : (records : List (List ℕ)) → RingIsAt old.bytes.capacity records old
     → length mid.bytes.items + length attempt ≤ old.bytes.capacity)
     (same_room : mid.bytes.capacity ≡ old.bytes.capacity) (same_places : mid.lengths.capacity ≡ old.lengths.capacity)
-    (counted : new.drops ≡ old.drops)
-    (extended : new.bytes ≡ buffer (keep_last mid.bytes.capacity (mid.bytes.items ++ attempt)) mid.bytes.capacity)
+    (counted : new.drops ≡ old.drops) (fits : ℕ)
+    (as_many : fits ≡ min (length attempt) (mid.bytes.capacity - length mid.bytes.items))
+    (filled : new.bytes ≡ buffer (mid.bytes.items ++ take fits attempt) mid.bytes.capacity)
   where
     at_capacity : RingIsAt old.bytes.capacity attempts old
     at_capacity = let P : ℕ → Type 0 = λ n. RingIsAt n attempts old in subst P (sym s.room) s
 
+    -- all of it fits
     stored : new.bytes.items ≡ mid.bytes.items ++ attempt
-    stored = ap (λ (b : Buffer ℕ). b.items) extended
-        ∙ keep_all mid.bytes.capacity (mid.bytes.items ++ attempt)
-        (omega (arith, length-append mid.bytes.items attempt, room attempts at_capacity))
+    stored = ap (λ (b : Buffer ℕ). b.items) filled
+        ∙ ap (λ (xs : List ℕ). mid.bytes.items ++ xs)
+        (take_all fits attempt (omega (arith, as_many, same_room, room attempts at_capacity)))
 
     put_with : new.lengths.capacity ≡ mid.lengths.capacity
         → new.lengths.items ≡ mid.lengths.items ++ lengths_of (attempt ∷ [])
@@ -200,7 +202,7 @@ module _ (size : ℕ) (attempts : List (List ℕ)) (attempt : List ℕ) (old mid
         subst P s.room
         (ring_taken old.bytes.capacity attempts attempt old new at_capacity mid.bytes.items mid.lengths.items
         (makes attempts at_capacity) (room attempts at_capacity)
-        (ap (λ (b : Buffer ℕ). b.capacity) extended ∙ same_room)
+        (ap (λ (b : Buffer ℕ). b.capacity) filled ∙ same_room)
         (places ∙ same_places ∙ at_capacity.places) stored long counted)
 
     -- a record with bytes has its length noted

@@ -46,7 +46,8 @@ impl RingStore {
             return false;
         }
         self.make_room(bytes.len());
-        self.bytes.extend_from_slice(bytes);
+        // there is room for all of it
+        self.bytes.fill_from_slice(bytes);
         // An empty record shows nowhere.
         if !bytes.is_empty() {
             self.lengths.push_back(bytes.len() as u32);

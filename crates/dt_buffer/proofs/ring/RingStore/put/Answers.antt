@@ -12,10 +12,10 @@ pub returns-then-not-is_empty-clause-shows : goal.returns-then-not-is_empty-clau
 returns-then-not-is_empty-clause-shows c = λ size attempts s.
     ring_put_some size attempts c.args.bytes.now c.args.self.now c.make_room.new.self _ s
     c.make_room.ensures.makes_room c.make_room.ensures.room c.make_room.ensures.capacity c.make_room.ensures.places
-    c.make_room.ensures.drops c.extend_from_slice.ensures (search rules) c.push_back.ensures.items
+    c.make_room.ensures.drops _ c.fill_from_slice.ensures.count c.fill_from_slice.ensures.items (search rules) c.push_back.ensures.items
 
 pub returns-else-not-is_empty-clause-shows : goal.returns-else-not-is_empty-clause-shows
 returns-else-not-is_empty-clause-shows c = λ size attempts s.
     ring_put_empty size attempts c.args.bytes.now c.args.self.now c.make_room.new.self _ s
     c.make_room.ensures.makes_room c.make_room.ensures.room c.make_room.ensures.capacity c.make_room.ensures.places
-    c.make_room.ensures.drops c.extend_from_slice.ensures (search rules) refl
+    c.make_room.ensures.drops _ c.fill_from_slice.ensures.count c.fill_from_slice.ensures.items (search rules) refl
