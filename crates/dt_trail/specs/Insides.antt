@@ -1,5 +1,5 @@
 -- What holds of the fields of an owner and a note.
-use Rattle.std.specs.Prelude.{◌≡◌, ◌<◌, ◌≤◌, ◌+◌, ◌*◌, ℕ, List, [], length, Option, Some, None, false}
+use Rattle.std.specs.Prelude.{◌≡◌, ◌<◌, ◌≤◌, ◌+◌, ◌*◌, ℕ, List, [], length, Some, None, false}
 use denote.RawPtr.{Ptr, null_ptr, InBlock}
 use Rattle.atomic_blocks.specs.Cells.{me, Row, row, cell_in, AllHome}
 use Rattle.atomic_blocks.specs.declared.rows.shared.Seat.{Seat}
@@ -51,19 +51,7 @@ module _ {K A : Type 0} where
   abbrev pub Owner : RowSeat K A → Type 0
   Owner s = s.me ≡ me (owner s.me.view.account s.me.view.knows s.me.view.door s.me.view.extent) None None
 
-abbrev pub id_of : {K A : Type 0} → Option (RowSeat K A) → ℕ
-id_of (Some s) = s.id
-id_of None = 0
-
-abbrev pub knows_of : {K A : Type 0} → Option (RowSeat K A) → List TrailItem
-knows_of (Some s) = s.me.view.knows
-knows_of None = []
-
 module _ {K L : Type 0} where
-  -- a seat of the row
-  abbrev pub sat : Inner K L → ℕ → Turn K → RowSeat K Global
-  sat i n m = record { marker = record {}; rows = i.rows.id; heap = i.rows.heap; id = n; me = m }
-
   abbrev pub row_of : Inner K L → Named K
   row_of i = named_row i.rows.id i.about.account
 
@@ -71,13 +59,15 @@ module _ {K L : Type 0} where
   abbrev pub right : Inner K L → List TrailItem → Door → ℕ → ℕ → Turn K
   right i knows d widened cells = me (owner (Some i.about.account) knows d (extent_of (widened + 1) cells false null_ptr)) None None
 
-  abbrev pub owner_known : Inner K L → Option (RowSeat K Global) → ℕ → ℕ → Known K
-  owner_known i s cells widened = known_row (row_of i) (knows_of s) cells widened
+  abbrev pub owner_known : Inner K L → RowSeat K Global → ℕ → ℕ → Known K
+  owner_known i s cells widened = known_row (row_of i) s.me.view.knows cells widened
 
-  pub record IsOwner (i : Inner K L) (s : Option (RowSeat K Global)) (d : Door) (count widened cells : ℕ) : Type 0 where
-    pub seat : s ≡ Some (sat i (id_of s) (right i (knows_of s) d widened cells))
+  pub record IsOwner (i : Inner K L) (s : RowSeat K Global) (d : Door) (count widened cells : ℕ) : Type 0 where
+    pub rows : s.rows ≡ i.rows.id
+    pub heap : s.heap ≡ i.rows.heap
+    pub mine : s.me ≡ right i s.me.view.knows d widened cells
     pub at : IsDoorAt d count
-    pub counted : count ≡ length (knows_of s)
+    pub counted : count ≡ length s.me.view.knows
     pub full : count ≤ cells
     pub few : widened ≤ widenings
     pub wide : cells ≤ (widened + 1) * block_bound

@@ -18,6 +18,7 @@ use crate::rule::{
 };
 use atomic_blocks::rows::{Link, Loose};
 use std::alloc::Global;
+use std::mem;
 
 /// The door to the next block, if there is one.
 pub fn turn<K, L: Law<K>>(inner: &Inner<K, L>, seat: &mut RowSeat<K>, door: Door) -> Option<Door>
@@ -59,49 +60,52 @@ pub fn look<K, L: Law<K>>(inner: &Inner<K, L>, seat: &mut RowSeat<K>, door: Door
         .load::<ReadsCell<L>>(seat, door.block + 1, door.link, next)
 }
 
-// The owner's right goes into a note's seat.
-fn lend<K, L: Law<K>>(inner: &Inner<K, L>, seat: &mut RowSeat<K>, right: RowSeat<K>)
+// The owner's right goes into a note's seat. A claim stays where it was.
+fn lend<K, L: Law<K>>(inner: &Inner<K, L>, seat: &mut RowSeat<K>, right: &mut RowSeat<K>)
     requires seat { OfRow inner.now seat.old × Note seat.old }
-    requires right { OfRow inner.now right × Owner right × (right.me.view.account ≡ seat.old.me.view.account) }
+    requires right { OfRow inner.now right.old × Owner right.old × (right.old.me.view.account ≡ seat.old.me.view.account) }
     ensures same { SameSeat seat.old seat.new }
-    ensures seat { seat.new.me ≡ me (appender seat.old.me.view.account seat.old.me.view.note seat.old.me.view.knows right.me.view.knows right.me.view.door right.me.view.extent) None None }
+    ensures seat { seat.new.me ≡ me (appender seat.old.me.view.account seat.old.me.view.note seat.old.me.view.knows right.old.me.view.knows right.old.me.view.door right.old.me.view.extent) None None }
 {
     let root = inner.about.root;
-    inner.rows.join_seat::<Lends>(seat, right, ROOT, root);
+    let claim = tell(inner, right);
+    inner
+        .rows
+        .join_seat::<Lends>(seat, mem::replace(right, claim), ROOT, root);
 }
 
 // And comes out again.
-fn hand_back<K, L: Law<K>>(inner: &Inner<K, L>, seat: &mut RowSeat<K>) -> RowSeat<K>
+fn hand_back<K, L: Law<K>>(inner: &Inner<K, L>, seat: &mut RowSeat<K>, right: &mut RowSeat<K>)
     requires { OfRow inner.now seat.old × Appender seat.old }
     ensures seat { SameSeat seat.old seat.new × (seat.new.me ≡ me (note seat.old.me.view.account seat.old.me.view.note seat.old.me.view.knows seat.old.me.view.door) None None) }
-    ensures right { (result.rows ≡ seat.old.rows) × (result.heap ≡ seat.old.heap) × (result.me ≡ me (owner seat.old.me.view.account seat.old.me.view.knows seat.old.me.view.door seat.old.me.view.extent) None None) }
+    ensures right { (right.new.rows ≡ seat.old.rows) × (right.new.heap ≡ seat.old.heap) × (right.new.me ≡ me (owner seat.old.me.view.account seat.old.me.view.knows seat.old.me.view.door seat.old.me.view.extent) None None) }
 {
     let root = inner.about.root;
-    inner.rows.split_seat::<Lends>(seat, ROOT, root)
+    *right = inner.rows.split_seat::<Lends>(seat, ROOT, root);
 }
 
 /// Sets the first empty cell, in the note's seat. The owner's right goes in, and comes out again.
 pub fn set_next<P: Picked, K, L: Law<K>>(
     inner: &Inner<K, L>,
     seat: &mut RowSeat<K>,
-    right: RowSeat<K>,
+    right: &mut RowSeat<K>,
     door: Door,
     count: u64,
     item: &Item,
-) -> RowSeat<K>
+)
     requires picked { P.item ≡ item.now }
     requires seat { OfRow inner.now seat.old × Note seat.old }
-    requires right { OfRow inner.now right × Owner right × (right.me.view.account ≡ seat.old.me.view.account) }
-    requires door { (right.me.view.door ≡ door) × IsDoor door }
-    requires at { (count ≡ length right.me.view.knows) × (door.from ≤ count) × (count < door.from + door.len) }
+    requires right { OfRow inner.now right.old × Owner right.old × (right.old.me.view.account ≡ seat.old.me.view.account) }
+    requires door { (right.old.me.view.door ≡ door) × IsDoor door }
+    requires at { (count ≡ length right.old.me.view.knows) × (door.from ≤ count) × (count < door.from + door.len) }
     requires item { whose item.now ≡ seat.old.me.view.note }
     requires account { seat.old.me.view.account ≡ Some inner.now.about.account }
-    requires lawful { StartsWith right.me.view.knows seat.old.me.view.knows
-        → own seat.old.me.view.note right.me.view.knows ≡ own seat.old.me.view.note seat.old.me.view.knows
-        → L.lawful inner.now.about.account (right.me.view.knows ++ item.now ∷ []) }
-    ensures seat { (seat.new.rows ≡ seat.old.rows) × (seat.new.heap ≡ seat.old.heap) × (seat.new.me ≡ me (note seat.old.me.view.account seat.old.me.view.note (right.me.view.knows ++ item.now ∷ []) door) None None) }
-    ensures right { (result.rows ≡ seat.old.rows) × (result.heap ≡ seat.old.heap) × (result.me ≡ me (owner seat.old.me.view.account (right.me.view.knows ++ item.now ∷ []) door right.me.view.extent) None None) }
-    ensures met { StartsWith right.me.view.knows seat.old.me.view.knows × (own seat.old.me.view.note right.me.view.knows ≡ own seat.old.me.view.note seat.old.me.view.knows) }
+    requires lawful { StartsWith right.old.me.view.knows seat.old.me.view.knows
+        → own seat.old.me.view.note right.old.me.view.knows ≡ own seat.old.me.view.note seat.old.me.view.knows
+        → L.lawful inner.now.about.account (right.old.me.view.knows ++ item.now ∷ []) }
+    ensures seat { (seat.new.rows ≡ seat.old.rows) × (seat.new.heap ≡ seat.old.heap) × (seat.new.me ≡ me (note seat.old.me.view.account seat.old.me.view.note (right.old.me.view.knows ++ item.now ∷ []) door) None None) }
+    ensures right { (right.new.rows ≡ seat.old.rows) × (right.new.heap ≡ seat.old.heap) × (right.new.me ≡ me (owner seat.old.me.view.account (right.old.me.view.knows ++ item.now ∷ []) door right.old.me.view.extent) None None) }
+    ensures met { StartsWith right.old.me.view.knows seat.old.me.view.knows × (own seat.old.me.view.note right.old.me.view.knows ≡ own seat.old.me.view.note seat.old.me.view.knows) }
 {
     lend(inner, seat, right);
     let empty = (count - door.from) as usize;
@@ -109,49 +113,40 @@ pub fn set_next<P: Picked, K, L: Law<K>>(
     inner
         .rows
         .store::<Sets<P>>(seat, door.block + 1, door.link, empty, word);
-    hand_back(inner, seat)
+    hand_back(inner, seat, right);
 }
 
 /// The note's seat then knows the whole row.
-pub fn show_all<K, L: Law<K>>(
-    inner: &Inner<K, L>,
-    seat: &mut RowSeat<K>,
-    right: RowSeat<K>,
-) -> RowSeat<K>
+pub fn show_all<K, L: Law<K>>(inner: &Inner<K, L>, seat: &mut RowSeat<K>, right: &mut RowSeat<K>)
     requires seat { OfRow inner.now seat.old × Note seat.old }
-    requires right { OfRow inner.now right × Owner right × (right.me.view.account ≡ seat.old.me.view.account) }
-    ensures seat { (seat.new.rows ≡ seat.old.rows) × (seat.new.heap ≡ seat.old.heap) × (seat.new.me ≡ me (note seat.old.me.view.account seat.old.me.view.note right.me.view.knows right.me.view.door) None None) }
-    ensures right { (result.rows ≡ seat.old.rows) × (result.heap ≡ seat.old.heap) × (result.me ≡ me (owner seat.old.me.view.account right.me.view.knows right.me.view.door right.me.view.extent) None None) }
-    ensures met { StartsWith right.me.view.knows seat.old.me.view.knows × (own seat.old.me.view.note right.me.view.knows ≡ own seat.old.me.view.note seat.old.me.view.knows) }
+    requires right { OfRow inner.now right.old × Owner right.old × (right.old.me.view.account ≡ seat.old.me.view.account) }
+    ensures seat { (seat.new.rows ≡ seat.old.rows) × (seat.new.heap ≡ seat.old.heap) × (seat.new.me ≡ me (note seat.old.me.view.account seat.old.me.view.note right.old.me.view.knows right.old.me.view.door) None None) }
+    ensures right { (right.new.rows ≡ seat.old.rows) × (right.new.heap ≡ seat.old.heap) × (right.new.me ≡ me (owner seat.old.me.view.account right.old.me.view.knows right.old.me.view.door right.old.me.view.extent) None None) }
+    ensures met { StartsWith right.old.me.view.knows seat.old.me.view.knows × (own seat.old.me.view.note right.old.me.view.knows ≡ own seat.old.me.view.note seat.old.me.view.knows) }
 {
     lend(inner, seat, right);
     inner
         .rows
         .load::<ComparesItems>(seat, ROOT, inner.about.root, 0);
-    hand_back(inner, seat)
+    hand_back(inner, seat, right);
 }
 
 /// Moves the owner's door to the block of the first empty cell.
-pub fn arrive<K, L: Law<K>>(
-    inner: &Inner<K, L>,
-    seat: &mut RowSeat<K>,
-    door: Door,
-    count: u64,
-) -> Door
+pub fn arrive<K, L: Law<K>>(inner: &Inner<K, L>, seat: &mut RowSeat<K>, door: &mut Door, count: u64)
     requires seat { OfRow inner.now seat.old × (seat.old.me.view.account ≡ Some inner.now.about.account) × (seat.old.me.view.owns ≡ true) }
-    requires door { (seat.old.me.view.door ≡ door) × IsDoorAt door count }
+    requires door { (seat.old.me.view.door ≡ door.old) × IsDoorAt door.old count }
     requires room { count < seat.old.me.view.extent.cells }
     ensures same { SameSeat seat.old seat.new }
-    ensures view { seat.new.me ≡ reviewed seat.old.me (through seat.old.me.view result) }
-    ensures door { IsDoor result × (result.from ≤ count) × (count < result.from + result.len) }
+    ensures view { seat.new.me ≡ reviewed seat.old.me (through seat.old.me.view door.new) }
+    ensures door { IsDoor door.new × (door.new.from ≤ count) × (count < door.new.from + door.new.len) }
 {
-    if count < door.from + door.len {
-        return door;
+    // nearly all items lie in the block of the one before, and the door stays as it is
+    if count >= door.from + door.len {
+        let Some(next) = turn(inner, seat, *door) else {
+            unreachable!()
+        };
+        *door = next;
     }
-    let Some(next) = turn(inner, seat, door) else {
-        unreachable!()
-    };
-    next
 }
 
 /// The block joins the row, by a seat that has the owner's right.
@@ -186,25 +181,25 @@ pub fn lay<K, L: Law<K>>(
 pub fn lay_in<K, L: Law<K>>(
     inner: &Inner<K, L>,
     seat: &mut RowSeat<K>,
-    right: RowSeat<K>,
+    right: &mut RowSeat<K>,
     blocks: u64,
     cells: u64,
     link: Link<()>,
     block: Loose<(), Global>,
-) -> RowSeat<K>
+)
     requires seat { OfRow inner.now seat.old × Note seat.old }
-    requires right { OfRow inner.now right × Owner right × (right.me.view.account ≡ seat.old.me.view.account) }
-    requires extent { right.me.view.extent ≡ extent_of blocks right.me.view.extent.cells false null_ptr }
-    requires room { (blocks < widenings + 1) × (right.me.view.extent.cells + cells < cells_bound) }
+    requires right { OfRow inner.now right.old × Owner right.old × (right.old.me.view.account ≡ seat.old.me.view.account) }
+    requires extent { right.old.me.view.extent ≡ extent_of blocks right.old.me.view.extent.cells false null_ptr }
+    requires room { (blocks < widenings + 1) × (right.old.me.view.extent.cells + cells < cells_bound) }
     requires block { (block.heap ≡ inner.now.rows.heap) × (block.at ≡ link.ptr) × InBlock link.ptr × (block.left ≡ 0) × AllHome block.cells × (length block.cells ≡ cells) × Blank block.cells }
     requires wide { (0 < cells) × (cells < block_bound) }
-    ensures seat { (seat.new.rows ≡ seat.old.rows) × (seat.new.heap ≡ seat.old.heap) × (seat.new.me ≡ me (note seat.old.me.view.account seat.old.me.view.note right.me.view.knows right.me.view.door) None None) }
-    ensures right { (result.rows ≡ seat.old.rows) × (result.heap ≡ seat.old.heap) × (result.me ≡ me (owner seat.old.me.view.account right.me.view.knows right.me.view.door (extent_of (blocks + 1) (right.me.view.extent.cells + cells) false null_ptr)) None None) }
-    ensures met { StartsWith right.me.view.knows seat.old.me.view.knows × (own seat.old.me.view.note right.me.view.knows ≡ own seat.old.me.view.note seat.old.me.view.knows) }
+    ensures seat { (seat.new.rows ≡ seat.old.rows) × (seat.new.heap ≡ seat.old.heap) × (seat.new.me ≡ me (note seat.old.me.view.account seat.old.me.view.note right.old.me.view.knows right.old.me.view.door) None None) }
+    ensures right { (right.new.rows ≡ seat.old.rows) × (right.new.heap ≡ seat.old.heap) × (right.new.me ≡ me (owner seat.old.me.view.account right.old.me.view.knows right.old.me.view.door (extent_of (blocks + 1) (right.old.me.view.extent.cells + cells) false null_ptr)) None None) }
+    ensures met { StartsWith right.old.me.view.knows seat.old.me.view.knows × (own seat.old.me.view.note right.old.me.view.knows ≡ own seat.old.me.view.note seat.old.me.view.knows) }
 {
     lend(inner, seat, right);
     lay(inner, seat, blocks, cells, link, block);
-    hand_back(inner, seat)
+    hand_back(inner, seat, right);
 }
 
 /// What the seat knows, for another.

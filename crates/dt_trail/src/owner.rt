@@ -24,7 +24,7 @@ use std::sync::Arc;
 /// and how often it was widened.
 pub struct TrailOwner<K, L: Law<K>> {
     pub(crate) cells: Arc<Inner<K, L>, Global>,
-    pub(crate) seat: Option<RowSeat<K>>,
+    pub(crate) seat: RowSeat<K>,
     pub(crate) door: Door,
     pub(crate) count: u64,
     pub(crate) widened: u64,
@@ -76,7 +76,7 @@ impl<K, L: Law<K>> TrailOwner<K, L> {
     {
         TrailOwner {
             cells,
-            seat: Some(right),
+            seat: right,
             door,
             count: 0,
             widened: 0,
@@ -119,16 +119,18 @@ impl<K, L: Law<K>> TrailOwner<K, L> {
         ensures met { Meets self.old.knows note.old }
     {
         let count = self.count;
-        let Some(mut right) = self.seat.take() else {
-            unreachable!()
-        };
         let inner: &Inner<K, L> = &self.cells;
-        let door = arrive(inner, &mut right, self.door, count);
-        let right = set_next::<Brand, K, L>(inner, &mut note.seat, right, door, count, item);
-        self.seat = Some(right);
-        self.door = door;
+        arrive(inner, &mut self.seat, &mut self.door, count);
+        set_next::<Brand, K, L>(
+            inner,
+            &mut note.seat,
+            &mut self.seat,
+            self.door,
+            count,
+            item,
+        );
         self.count = count + 1;
-        note.door = door;
+        note.door = self.door;
         note.count = count + 1;
     }
 
@@ -139,12 +141,8 @@ impl<K, L: Law<K>> TrailOwner<K, L> {
         ensures note { note.new ≡ noted note.old.row note.old.number self.old.knows }
         ensures met { Meets self.old.knows note.old }
     {
-        let Some(right) = self.seat.take() else {
-            unreachable!()
-        };
         let inner: &Inner<K, L> = &self.cells;
-        let right = show_all(inner, &mut note.seat, right);
-        self.seat = Some(right);
+        show_all(inner, &mut note.seat, &mut self.seat);
         note.door = self.door;
         note.count = self.count;
     }
@@ -154,12 +152,8 @@ impl<K, L: Law<K>> TrailOwner<K, L> {
         ensures told { (result.row ≡ self.old.row.id) × (result.knows ≡ self.old.knows) }
         ensures same { self.new ≡ self.old }
     {
-        let Some(mut right) = self.seat.take() else {
-            unreachable!()
-        };
         let inner: &Inner<K, L> = &self.cells;
-        let seat = tell(inner, &mut right);
-        self.seat = Some(right);
+        let seat = tell(inner, &mut self.seat);
         Told {
             seat,
             door: self.door,
@@ -181,13 +175,17 @@ impl<K, L: Law<K>> TrailOwner<K, L> {
         ensures same { OnErr result ((self.new ≡ self.old) × (note.new ≡ note.old)) }
     {
         let (link, block) = storage::block(&self.cells.alloc, cells)?;
-        let Some(right) = self.seat.take() else {
-            unreachable!()
-        };
         let inner: &Inner<K, L> = &self.cells;
         let at = self.widened + 1;
-        let right = lay_in(inner, &mut note.seat, right, at, cells, link, block);
-        self.seat = Some(right);
+        lay_in(
+            inner,
+            &mut note.seat,
+            &mut self.seat,
+            at,
+            cells,
+            link,
+            block,
+        );
         self.widened = at;
         self.width += cells;
         note.door = self.door;

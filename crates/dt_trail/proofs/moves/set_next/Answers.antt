@@ -11,7 +11,7 @@ pub store-requires : goal.store-requires
 store-requires g c =
     let r = c.requires in let k = c.args.inner.now in let j = c.lend.ensures in
     let v : TrailView g.row.K.Denot = c.args.seat.now.me.view in
-    let w : TrailView g.row.K.Denot = c.args.right.me.view in
+    let w : TrailView g.row.K.Denot = c.args.right.now.me.view in
     let is : c.lend.new.seat.me.view ≡ appender v.account v.note v.knows w.knows c.args.door w.extent =
     ap (λ m. m.view) j.seat ∙ ap (λ (d : Door). appender v.account v.note v.knows w.knows d w.extent) r.door.0 in
     let x : TrailItem = g.P.Picked.item in

@@ -3,29 +3,29 @@ use Rattle.std.specs.Arc.{arc_value}
 use denote.RawPtr.{null_ptr}
 use Rattle.atomic_blocks.specs.Cells.{me}
 use Rattle.dt_trail.specs.Rule.{Turn, owner, extent_of}
-use Rattle.dt_trail.specs.Insides.{row_of, knows_of}
+use Rattle.dt_trail.specs.Insides.{row_of}
 use Rattle.dt_trail.specs.declared.law.Named.{Named}
 use Rattle.dt_trail.specs.Known.{Known, Noted}
 use Rattle.dt_trail.specs.Items.{TrailItem}
-use Rattle.dt_trail.proofs.Owning.{taken, owning}
+use Rattle.dt_trail.proofs.Owning.{owning}
 use Rattle.dt_trail.proofs.owner.TrailOwner.append.Goals as goal
 
 pub invariant_of-self : goal.invariant_of-self
 invariant_of-self g c =
     let i = c.self.invariant in
     let inner = arc_value c.self.inside.cells in
-    let ks : List TrailItem = knows_of c.self.inside.seat in
-    let t = taken inner c.self.inside.seat c.in-Some.right c.self.inside.door c.self.inside.widened c.self.inside.width (sym c.take.ensures.value ∙ c.in-Some.is) i.seat in
+    let ks : List TrailItem = c.self.inside.seat.me.view.knows in
+    let t = i.mine in
     let n = c.note.invariant in
     let row : row_of (arc_value c.note.inside.cells) ≡ row_of inner = ap (λ (k : Noted g.row.K.Denot). k.row) c.note.view_is ∙ (sym c.requires.row ∙ sym (ap (λ (k : Known g.row.K.Denot). k.row) c.self.view_is)) in
     let acc : c.note.inside.seat.me.view.account ≡ Some inner.about.account = ap (λ (m : Turn g.row.K.Denot). m.view.account) n.mine ∙ ap (λ (r : Named g.row.K.Denot). Some r.account) row in
-    let x = c.set_next-right.ensures in let a = c.arrive-door.ensures in
-    let extent : c.arrive-door.new.seat.me.view.extent ≡ extent_of (c.self.inside.widened + 1) c.self.inside.width false null_ptr = ap (λ (m : Turn g.row.K.Denot). m.view.extent) a.view ∙ ap (λ (m : Turn g.row.K.Denot). m.view.extent) t.2 in
-    let knows : c.arrive-door.new.seat.me.view.knows ≡ ks = ap (λ (m : Turn g.row.K.Denot). m.view.knows) a.view ∙ ap (λ (m : Turn g.row.K.Denot). m.view.knows) t.2 in
+    let x = c.set_next.ensures in let a = c.arrive.ensures in
+    let extent : c.arrive.new.seat.me.view.extent ≡ extent_of (c.self.inside.widened + 1) c.self.inside.width false null_ptr = ap (λ (m : Turn g.row.K.Denot). m.view.extent) a.view ∙ ap (λ (m : Turn g.row.K.Denot). m.view.extent) t in
+    let knows : c.arrive.new.seat.me.view.knows ≡ ks = ap (λ (m : Turn g.row.K.Denot). m.view.knows) a.view ∙ ap (λ (m : Turn g.row.K.Denot). m.view.knows) t in
     let all : List TrailItem = ks ++ c.args.item.now ∷ [] in
     let room : length ks < c.self.inside.width = subst (λ (k : Known g.row.K.Denot). length k.knows < k.cells) (sym c.self.view_is) c.requires.room in
-    owning inner c.set_next-right.result c.arrive-door.result all (c.self.inside.count + 1) c.self.inside.widened c.self.inside.width
+    owning inner c.set_next.new.right c.arrive.new.door all (c.self.inside.count + 1) c.self.inside.widened c.self.inside.width
     (x.right.0 ∙ (n.rows ∙ ap (λ (r : Named g.row.K.Denot). r.id) row)) refl
-    (x.right.2 ∙ (λ j. me (owner (acc j) (knows j ++ c.args.item.now ∷ []) c.arrive-door.result (extent j)) None None))
+    (x.right.2 ∙ (λ j. me (owner (acc j) (knows j ++ c.args.item.now ∷ []) c.arrive.new.door (extent j)) None None))
     record { door = a.door.0; low = (let l = a.door.1 in omega arith); high = (let l = a.door.2 in omega arith) }
     (ap (λ (z : ℕ). z + 1) i.counted ∙ sym (length-append ks (c.args.item.now ∷ []))) (let e = i.counted in omega arith) i.few i.wide

@@ -3,27 +3,27 @@ use Rattle.std.specs.Arc.{arc_value}
 use denote.RawPtr.{null_ptr}
 use Rattle.atomic_blocks.specs.Cells.{me}
 use Rattle.dt_trail.specs.Rule.{Turn, owner, extent_of}
-use Rattle.dt_trail.specs.Insides.{row_of, knows_of}
+use Rattle.dt_trail.specs.Insides.{row_of}
 use Rattle.dt_trail.specs.declared.law.Named.{Named}
 use Rattle.dt_trail.specs.Known.{Known, Noted}
 use Rattle.dt_trail.specs.Items.{TrailItem}
 use Rattle.dt_trail.specs.Limits.{widenings}
-use Rattle.dt_trail.proofs.Owning.{taken, owning}
+use Rattle.dt_trail.proofs.Owning.{owning}
 use Rattle.dt_trail.proofs.owner.TrailOwner.widen.Goals as goal
 
 pub invariant_of-self : goal.invariant_of-self
 invariant_of-self g c =
     let i = c.self.invariant in
     let inner = arc_value c.self.inside.cells in
-    let ks : List TrailItem = knows_of c.self.inside.seat in
-    let t = taken inner c.self.inside.seat c.in-Some.right c.self.inside.door c.self.inside.widened c.self.inside.width (sym c.take.ensures.value ∙ c.in-Some.is) i.seat in
+    let ks : List TrailItem = c.self.inside.seat.me.view.knows in
+    let t = i.mine in
     let n = c.note.invariant in
     let row : row_of (arc_value c.note.inside.cells) ≡ row_of inner = ap (λ (k : Noted g.row.K.Denot). k.row) c.note.view_is ∙ (sym c.requires.row ∙ sym (ap (λ (k : Known g.row.K.Denot). k.row) c.self.view_is)) in
     let acc : c.note.inside.seat.me.view.account ≡ Some inner.about.account = ap (λ (m : Turn g.row.K.Denot). m.view.account) n.mine ∙ ap (λ (r : Named g.row.K.Denot). Some r.account) row in
-    let x = c.lay_in-right.ensures in
-    let knows : c.in-Some.right.me.view.knows ≡ ks = ap (λ (m : Turn g.row.K.Denot). m.view.knows) t.2 in
-    let cells : c.in-Some.right.me.view.extent.cells ≡ c.self.inside.width = ap (λ (m : Turn g.row.K.Denot). m.view.extent.cells) t.2 in
-    owning inner c.lay_in-right.result c.self.inside.door ks c.self.inside.count (c.self.inside.widened + 1) (c.self.inside.width + c.args.cells)
+    let x = c.lay_in.ensures in
+    let knows : c.self.inside.seat.me.view.knows ≡ ks = ap (λ (m : Turn g.row.K.Denot). m.view.knows) t in
+    let cells : c.self.inside.seat.me.view.extent.cells ≡ c.self.inside.width = ap (λ (m : Turn g.row.K.Denot). m.view.extent.cells) t in
+    owning inner c.lay_in.new.right c.self.inside.door ks c.self.inside.count (c.self.inside.widened + 1) (c.self.inside.width + c.args.cells)
     (x.right.0 ∙ (n.rows ∙ ap (λ (r : Named g.row.K.Denot). r.id) row)) refl
-    (x.right.2 ∙ (λ j. me (owner (acc j) (knows j) ((ap (λ (m : Turn g.row.K.Denot). m.view.door) t.2) j) (extent_of (c.self.inside.widened + 1 + 1) (cells j + c.args.cells) false null_ptr)) None None))
+    (x.right.2 ∙ (λ j. me (owner (acc j) (knows j) ((ap (λ (m : Turn g.row.K.Denot). m.view.door) t) j) (extent_of (c.self.inside.widened + 1 + 1) (cells j + c.args.cells) false null_ptr)) None None))
     i.at i.counted (let f = i.full in omega arith) (let f : c.self.inside.widened < widenings = subst (λ (k : Known g.row.K.Denot). k.widened < widenings) (sym c.self.view_is) c.requires.few in omega arith) (let w = i.wide in let r = c.requires.wide.1 in omega arith)
