@@ -3,6 +3,7 @@ pub mod Listing
 pub mod Looking
 pub mod Agreeing
 pub mod Marking
+pub mod Showing
 pub mod Publishing
 pub mod Fronts
 pub mod Adding

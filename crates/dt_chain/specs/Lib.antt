@@ -6,6 +6,7 @@ pub mod Writes
 pub mod Kinds
 pub mod Look
 pub mod Seats
+pub mod Named
 pub mod IsAt
 pub mod Tests
 pub mod Chains

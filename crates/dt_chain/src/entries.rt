@@ -1,6 +1,7 @@
 //! The publications of all seats.
-ghost use Rattle.std.specs.Prelude.{◌≡◌, ◌<◌, ℕ, List, [], ◌∷◌, false, None, IfNone, IfSome, IsOk, IsSome, IsTrue, IsNone, OnOk, OnErr, slice_index_or, if◌then◌else◌};
+ghost use Rattle.std.specs.Prelude.{◌≡◌, ◌≢◌, ◌<◌, ◌/◌, ◌%◌, ℕ, List, [], ◌∷◌, None, IfNone, IfSome, IsOk, IsSome, IsTrue, IsNone, OnOk, OnErr, slice_index_or, if◌then◌else◌};
 ghost use Rattle.dt_chain.specs.declared.seat_set.TheConstants.{SEAT_WORDS};
+ghost use Rattle.dt_machine.specs.declared.bit_word.TheConstants.{WORD_BITS};
 
 use crate::lists::Lists;
 use crate::seat::{SEATS, Seat};
@@ -27,12 +28,28 @@ pub(crate) struct SeatSlot {
     pub(crate) account: Account,
 }
 
+impl SeatSlot {
+    ghost use Rattle.dt_machine.specs.Context.{IsContext};
+    ghost use Rattle.dt_machine.specs.Registry.{Registry};
+    ghost use Rattle.dt_machine.specs.Tests.{is_shown};
+
+    /// Whether its account is shown a firing.
+    #[tactic(auto, using(crate::proofs::Showing::kernel_shown))]
+    fn is_shown(&self, context: &Context) -> bool
+        ensures { (registry : Registry) → IsContext registry context.now
+            → result ≡ is_shown self.now.account registry context.now.firing.now }
+    {
+        // whoever holds dtrace_kernel is shown every firing, whatever its probe
+        self.account.privs.dtrace_kernel || context.is_shown(&self.account)
+    }
+}
+
 impl Entries {
     ghost use Rattle.dt_chain.specs.Writes.{Write, published, withdrawn, published_by};
     ghost use Rattle.dt_chain.specs.Look.{IsLook};
     ghost use Rattle.dt_chain.specs.Seats.{has, life_at};
     ghost use Rattle.dt_chain.specs.Kept.{life_shown};
-    ghost use Rattle.dt_machine.specs.BitWord.{is_in_word};
+    ghost use Rattle.dt_machine.specs.BitWord.{has_bit};
     ghost use Rattle.dt_machine.specs.Interest.{flags_of};
     ghost use Rattle.dt_machine.specs.Context.{IsContext};
     ghost use Rattle.dt_machine.specs.Registry.{Registry};
@@ -175,23 +192,26 @@ impl Entries {
         }
     }
 
-    /// Names those of some seats of a word whose accounts are shown a firing.
+    /// Names those of some seats of a word whose accounts are shown a firing, and no others of that word.
     fn show(&self, word: usize, seats: BitWord, context: &Context, mask: &mut SeatMask)
         requires { word < SEAT_WORDS }
         ensures named { (registry : Registry) → IsContext registry context.now
-            → (seat : ℕ) → IsTrue (is_in_word word seats seat)
-            → life_at mask.old seat ≡ None → life_at mask.new seat
-            ≡ life_shown registry context.now.firing.now (slice_index_or self.now.slots seat None) }
-        ensures others { (seat : ℕ) → is_in_word word seats seat ≡ false → life_at mask.new seat ≡ life_at mask.old seat }
+            → (seat : ℕ) → seat / WORD_BITS ≡ word → life_at mask.new seat
+            ≡ (if has_bit seats (seat % WORD_BITS) then life_shown registry context.now.firing.now
+            (slice_index_or self.now.slots seat None) else None) }
+        ensures others { (seat : ℕ) → seat / WORD_BITS ≢ word → life_at mask.new seat ≡ life_at mask.old seat }
     {
         let mut left = seats;
+        let mut named = BitWord::new();
         while let Some(place) = left.pop_first() {
-            let seat = Seat::at(word, place);
-            if let Some(slot) = &self.slots[seat.number() as usize] {
-                if context.is_shown(&slot.account) {
-                    mask.insert(seat, slot.life);
+            let number = Seat::at(word, place).number() as usize;
+            if let Some(slot) = &self.slots[number] {
+                if slot.is_shown(context) {
+                    named.insert(place);
+                    mask.lives[number] = slot.life;
                 }
             }
         }
+        mask.seats.words[word] = named;
     }
 }

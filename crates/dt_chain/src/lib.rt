@@ -25,6 +25,7 @@ mod history;
 mod laws;
 mod limit_laws;
 mod lists;
+mod named_seats;
 mod press;
 mod seat;
 mod seat_mask;
@@ -41,6 +42,7 @@ pub use laws::{
     copies_agree, last_write_tells, last_writes_suffice, one_look, own_writes_tell, tests_agree,
 };
 pub use limit_laws::limits_agree;
+pub use named_seats::NamedSeats;
 pub use seat::{SEATS, Seat};
 pub use seat_mask::SeatMask;
 pub use seat_set::SeatSet;

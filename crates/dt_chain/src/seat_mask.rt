@@ -1,11 +1,12 @@
 //! The seats that a look names.
 ghost use Rattle.std.specs.Prelude.{◌≡◌, ◌<◌, ◌==◌, ◌↔◌, ℕ, Some, None, IsTrue, MatchOption, is_some, if◌then◌else◌};
 
+use crate::named_seats::NamedSeats;
 use crate::seat::{SEATS, Seat};
 use crate::seat_set::SeatSet;
 
 /// Some seats, each with the number of the life that it is named for. It lies in the value itself, which is of 2 KB: so a
-/// look fills one that is lent (`Entries::look_into`), and [`SeatMask::seats`] tells which are named.
+/// look fills one that is lent (`Entries::look_into`), [`SeatMask::seats`] tells which are named, and [`SeatMask::named`] goes over them with their lives.
 ///
 /// Contracts see it as `life_at mask seat`: the life that a seat is named with, if it is named.
 #[derive(Clone, Copy)]
@@ -16,6 +17,7 @@ pub struct SeatMask {
 
 impl SeatMask {
     ghost use Rattle.dt_chain.specs.Seats.{has, life_at};
+    ghost use Rattle.dt_chain.specs.Named.{life_left};
 
     /// A mask that names no seat.
     pub fn new() -> Self
@@ -42,13 +44,15 @@ impl SeatMask {
         self.seats
     }
 
-    /// Names a seat with a life, in place of another that it may be named with.
-    pub(crate) fn insert(&mut self, seat: Seat, life: u64)
-        ensures { (other : ℕ)
-            → life_at self.new other ≡ (if other == seat then Some life else life_at self.old other) }
+    /// The seats that are named, each with its life, to go over them.
+    pub fn named(&self) -> NamedSeats<'_>
+        ensures { (seat : ℕ) → life_left result seat ≡ life_at self.now seat }
     {
-        self.seats.insert(seat);
-        self.lives[seat.number() as usize] = life;
+        NamedSeats {
+            mask: self,
+            left: self.seats,
+            word: 0,
+        }
     }
 
     /// Names a seat no more.

@@ -30,60 +30,52 @@ get_set_other (y ∷ xs) zero (suc j) x h = refl
 get_set_other (y ∷ xs) (suc i) zero x h = refl
 get_set_other (y ∷ xs) (suc i) (suc j) x h = get_set_other xs i j x (λ e. h (ap suc e))
 
-pub none_from : {A : Type 0} (o : Option A) → is_some o ≡ false → o ≡ None
-none_from (Some a) e = absurd (true≢false e)
-none_from None e = refl
-
-some_from : {A : Type 0} (o : Option A) → is_some o ≡ true → (a : A) × (o ≡ Some a)
-some_from (Some a) e = (a, refl)
-some_from None e = absurd (true≢false (sym e))
-
 there_at : {X : Type 0} (xs : List X) (i : ℕ) → i < length xs → (x : X) × (slice_get xs i ≡ Some x)
 there_at [] i h = absurd (omega arith)
 there_at (y ∷ xs) zero h = (y, refl)
 there_at (y ∷ xs) (suc i) h = there_at xs i (omega arith)
 
-module _ (contents : Contents) (firing : Firing) (mask : SeatMask) (start : List Followed) (held : List Held) (now : List Followed) (left new : SeatSet)
-    (next s : ℕ) (many : length now ≡ seat_count) (many_held : length held ≡ seat_count) (small : s < seat_count)
+module _ (contents : Contents) (firing : Firing) (mask : SeatMask) (start : List Followed) (held : List Held) (now : List Followed) (left new : ℕ → Option ℕ)
+    (next s life : ℕ) (many : length now ≡ seat_count) (many_held : length held ≡ seat_count) (small : s < seat_count)
     (begun : AreAtSeats firing.cpu firing.place start)
-    (left_below : (seat : ℕ) → seat < next → has left seat ≡ false)
-    (left_from : (seat : ℕ) → next ≤ seat → has left seat ≡ is_some (life_at mask seat))
+    (left_below : (seat : ℕ) → seat < next → left seat ≡ None)
+    (left_from : (seat : ℕ) → next ≤ seat → left seat ≡ life_at mask seat)
     (done : (seat : ℕ) → seat < next → ComesToSeat contents firing mask held start now seat)
     (rest : (seat : ℕ) → next ≤ seat → slice_get now seat ≡ slice_get start seat)
     (at_below : (seat : ℕ) → seat < next → IfSome (slice_get now seat) (IsAtSeat firing.cpu (firing.place + 1) seat))
-    (first_is : has left s ≡ true) (before : (seat : ℕ) → seat < s → has left seat ≡ false) where
+    (first_is : left s ≡ Some life) (before : (seat : ℕ) → seat < s → left seat ≡ None) where
   -- the first that is left isn't done yet
   pub from_next : next ≤ s
   from_next = elim (cases_lt s next) [
-    | inl lt ↦ absurd (true≢false (sym first_is ∙ left_below s lt))
+    | inl lt ↦ absurd (cc (first_is, left_below s lt))
     | inr le ↦ le
   ]
 
   -- it is named
-  pub named_first : (life : ℕ) × (life_at mask s ≡ Some life)
-  named_first = some_from (life_at mask s) (sym (left_from s from_next) ∙ first_is)
+  pub named_first : life_at mask s ≡ Some life
+  named_first = sym (left_from s from_next) ∙ first_is
 
   -- those before it that aren't done aren't named
   pub between : (seat : ℕ) → next ≤ seat → seat < s → life_at mask seat ≡ None
-  between seat le lt = none_from (life_at mask seat) (sym (left_from seat le) ∙ before seat lt)
+  between seat le lt = sym (left_from seat le) ∙ before seat lt
 
-  module _ (taken : (other : ℕ) → has new other ≡ (if other == s then false else has left other)) where
-    new_other : (seat : ℕ) → seat ≢ s → has new seat ≡ has left seat
-    new_other seat ne = taken seat ∙ ap (λ (b : Bool). if b then false else has left seat) (ne_eqb seat s ne)
+  module _ (taken : (other : ℕ) → new other ≡ (if other == s then None else left other)) where
+    new_other : (seat : ℕ) → seat ≢ s → new seat ≡ left seat
+    new_other seat ne = taken seat ∙ ap (λ (b : Bool). if b then None else left seat) (ne_eqb seat s ne)
 
-    new_same : has new s ≡ false
-    new_same = taken s ∙ ap (λ (b : Bool). if b then false else has left s) (eq-eqb s s refl)
+    new_same : new s ≡ None
+    new_same = taken s ∙ ap (λ (b : Bool). if b then None else left s) (eq-eqb s s refl)
 
-    pub below_taken : (seat : ℕ) → seat < s + 1 → has new seat ≡ false
+    pub below_taken : (seat : ℕ) → seat < s + 1 → new seat ≡ None
     below_taken seat lt = elim (cases_eq seat s) [
-      | inl e ↦ subst (λ (k : ℕ). has new k ≡ false) (sym e) new_same
+      | inl e ↦ subst (λ (k : ℕ). new k ≡ None) (sym e) new_same
       | inr ne ↦ new_other seat ne ∙ before seat (omega (arith, lt, ne))
     ]
 
-    pub from_taken : (seat : ℕ) → s + 1 ≤ seat → has new seat ≡ is_some (life_at mask seat)
+    pub from_taken : (seat : ℕ) → s + 1 ≤ seat → new seat ≡ life_at mask seat
     from_taken seat le = new_other seat (λ e. absurd (omega (arith, le, e))) ∙ left_from seat (omega (arith, le, from_next))
 
-  module _ (life : ℕ) (answer : Held) (f g : Followed) (named : life_at mask s ≡ Some life) (is : slice_get start s ≡ Some f)
+  module _ (answer : Held) (f g : Followed) (is : slice_get start s ≡ Some f)
       (comes : ComesOfFiring contents life firing answer f g)
       (own_is : own (firing.cpu + 1) (noted_of life g) ≡ own (firing.cpu + 1) (noted_of life f) ++ kept_items answer firing) where
     inside : s < length now
@@ -95,7 +87,7 @@ module _ (contents : Contents) (firing : Firing) (mask : SeatMask) (start : List
     here : ComesToSeat contents firing mask (slice_set held s answer) start (slice_set now s g) s
     here = match_some (life_at mask s) (slice_get (slice_set now s g) s ≡ slice_get start s)
         (λ life. IsOffered contents firing life (slice_get (slice_set held s answer) s) (slice_get start s) (slice_get (slice_set now s g) s))
-        life named
+        life named_first
         (record {
           answer = answer;
           before = f;

@@ -105,14 +105,10 @@ impl<J: HubSite> Hub<J> {
         ensures reader { (reader.new.seen ≡ reader.old.seen) × IsPrefix reader.old.told reader.new.told }
         ensures published { (seat : ℕ) → KnowsPublicationAt J.contents mask.now followers.new.items reader.new.told seat }
     {
-        let mut left = mask.seats();
+        let mut left = mask.named();
         let mut next = 0;
-        'seats: while let Some(seat) = left.first() {
-            left.remove(seat);
+        'seats: while let Some((seat, life)) = left.pop_first() {
             let at = seat.number() as usize;
-            let Some(life) = mask.life_of(seat) else {
-                unreachable!()
-            };
             held[at] = self.offer_at(rt, seat, life, context, &mut followers[at], reader, gate);
             next = at + 1;
         }

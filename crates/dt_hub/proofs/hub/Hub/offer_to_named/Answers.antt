@@ -1,14 +1,15 @@
 -- What is to be shown of `offer_to_named`.
-use Rattle.std.proofs.Common.{◌≡◌, ◌<◌, ◌==◌, ◌++◌, ◌∷◌, ℕ, [], true, false, Option, Some, length, inl, inr, sym, ap, ◌∙◌, subst, arith, if◌then◌else◌}
+use Rattle.std.proofs.Common.{◌≡◌, ◌<◌, ◌==◌, ◌++◌, ◌∷◌, ℕ, [], Option, Some, None, length, inl, inr, sym, ap, ◌∙◌, subst, arith, if◌then◌else◌}
 use Rattle.std.proofs.lemmas.Bool.{cases_eq, cases_lt}
 use Rattle.std.specs.Option.{IfSome}
 use mathlib.Core.List.{IsPrefix}
 use Rattle.std.proofs.lemmas.List.{length-set}
 use Rattle.std.proofs.lemmas.Option.{slice_get-get_or}
 use Rattle.std.specs.List.{slice_get, slice_set}
-use Rattle.dt_chain.specs.Seats.{has, life_at}
+use Rattle.dt_chain.specs.Named.{life_left}
+use Rattle.dt_chain.specs.Seats.{life_at}
 use Rattle.dt_facts.specs.laws.Beginnings.{prefix_trans}
-use Rattle.dt_hub.proofs.Offers.{all_at_next, at_more, below_taken, between, done_more, from_next, from_taken, get_set_other, get_set_same, none_from, rest_less}
+use Rattle.dt_hub.proofs.Offers.{all_at_next, at_more, below_taken, between, done_more, from_next, from_taken, get_set_other, get_set_same, named_first, rest_less}
 use Rattle.dt_hub.proofs.Publications.{known_before, known_here, known_unnamed}
 use Rattle.dt_hub.proofs.Tracks.{offered_at_seat, passed_at}
 use Rattle.dt_hub.specs.Firings.{KnowsPublicationAt}
@@ -26,50 +27,52 @@ seats-preserved g c =
     let mask = c.args.mask.now in
     let start = c.args.followers.now.items in
     let n = c.number-at.result in
-    let value : n ≡ c.in-Some.seat = c.number-at.ensures.value in
+    let value = c.number-at.ensures.value in
     let inv = c.seats.invariant in
-    let first_is : has c.seats.left n ≡ true = subst (λ (k : ℕ). has c.seats.left k ≡ true) (sym value) c.in-Some.ensures.0 in
-    let before : (seat : ℕ) → seat < n → has c.seats.left seat ≡ false =
+    let left : ℕ → Option ℕ = life_left c.seats.left in
+    let new : ℕ → Option ℕ = life_left c.pop_first.new.self in
+    let first_is = ap left value ∙ c.in-Some.ensures.0 in
+    let before : (seat : ℕ) → seat < n → left seat ≡ None =
     λ seat lt. c.in-Some.ensures.1 seat (omega (arith, lt, value)) in
-    let taken : (other : ℕ) → has c.remove.new.self other ≡ (if other == n then false else has c.seats.left other) =
-    λ other. rw value (c.remove.ensures other) in
-    let le = from_next contents firing mask start c.seats.held.items c.seats.followers.items c.seats.left c.remove.new.self c.seats.next n
+    let taken : (other : ℕ) → new other ≡ (if other == n then None else left other) =
+    λ other. rw value (c.in-Some.ensures.2 other) in
+    let le = from_next contents firing mask start c.seats.held.items c.seats.followers.items left new c.seats.next n _
     inv.many inv.held c.number-at.ensures.small c.requires.seats inv.left_below inv.left_from inv.done inv.rest inv.at_below first_is before in
-    let named : life_at mask n ≡ Some c.in-Some-life_of.life =
-    subst (λ (k : ℕ). life_at mask k ≡ Some c.in-Some-life_of.life) (sym value) (sym c.in-Some-life_of.ensures) in
+    let named = named_first contents firing mask start c.seats.held.items c.seats.followers.items left new c.seats.next n _
+    inv.many inv.held c.number-at.ensures.small c.requires.seats inv.left_below inv.left_from inv.done inv.rest inv.at_below first_is before in
     let small : n < length c.seats.followers.items = omega (arith, inv.many, c.number-at.ensures.small) in
     let is : slice_get start n ≡ Some c.index_mut.result.now =
     sym (inv.rest n le) ∙ slice_get-get_or c.seats.followers.items n c.index_mut.result.now small ∙ ap (λ f. Some f) (sym c.index_mut.ensures.value) in
     record {
       low = omega (arith, c.number-at.ensures.small);
-      left_below = below_taken contents firing mask start c.seats.held.items c.seats.followers.items c.seats.left c.remove.new.self c.seats.next n
+      left_below = below_taken contents firing mask start c.seats.held.items c.seats.followers.items left new c.seats.next n _
           inv.many inv.held c.number-at.ensures.small c.requires.seats inv.left_below inv.left_from inv.done inv.rest inv.at_below first_is before taken;
-      left_from = from_taken contents firing mask start c.seats.held.items c.seats.followers.items c.seats.left c.remove.new.self c.seats.next n
+      left_from = from_taken contents firing mask start c.seats.held.items c.seats.followers.items left new c.seats.next n _
           inv.many inv.held c.number-at.ensures.small c.requires.seats inv.left_below inv.left_from inv.done inv.rest inv.at_below first_is before taken;
-      done = done_more contents firing mask start c.seats.held.items c.seats.followers.items c.seats.left c.remove.new.self c.seats.next n
+      done = done_more contents firing mask start c.seats.held.items c.seats.followers.items left new c.seats.next n _
           inv.many inv.held c.number-at.ensures.small c.requires.seats inv.left_below inv.left_from inv.done inv.rest inv.at_below first_is before
-          c.in-Some-life_of.life c.offer_at.result c.index_mut.result.now c.offer_at.new.follower named is c.offer_at.ensures.held c.offer_at.ensures.own;
-      rest = rest_less contents firing mask start c.seats.held.items c.seats.followers.items c.seats.left c.remove.new.self c.seats.next n
+          c.offer_at.result c.index_mut.result.now c.offer_at.new.follower is c.offer_at.ensures.held c.offer_at.ensures.own;
+      rest = rest_less contents firing mask start c.seats.held.items c.seats.followers.items left new c.seats.next n _
           inv.many inv.held c.number-at.ensures.small c.requires.seats inv.left_below inv.left_from inv.done inv.rest inv.at_below first_is before
-          c.in-Some-life_of.life c.offer_at.result c.index_mut.result.now c.offer_at.new.follower named is c.offer_at.ensures.held c.offer_at.ensures.own;
+          c.offer_at.result c.index_mut.result.now c.offer_at.new.follower is c.offer_at.ensures.held c.offer_at.ensures.own;
       many = length-set c.seats.followers.items n c.offer_at.new.follower ∙ inv.many;
       held = length-set c.seats.held.items n c.offer_at.result ∙ inv.held;
-      at_below = at_more contents firing mask start c.seats.held.items c.seats.followers.items c.seats.left c.remove.new.self c.seats.next n
+      at_below = at_more contents firing mask start c.seats.held.items c.seats.followers.items left new c.seats.next n _
           inv.many inv.held c.number-at.ensures.small c.requires.seats inv.left_below inv.left_from inv.done inv.rest inv.at_below first_is before
-          c.in-Some-life_of.life c.offer_at.result c.index_mut.result.now c.offer_at.new.follower named is c.offer_at.ensures.held c.offer_at.ensures.own;
+          c.offer_at.result c.index_mut.result.now c.offer_at.new.follower is c.offer_at.ensures.held c.offer_at.ensures.own;
       seen = c.offer_at.ensures.reader.0 ∙ inv.seen;
       told = prefix_trans _ _ _ inv.told c.offer_at.ensures.reader.1;
       known = rw c.offer_at.ensures.reader.0 (prefix_trans _ _ _ inv.known c.offer_at.ensures.reader.1);
       published = λ seat lt. elim (cases_eq seat n) [
         | inl e ↦ subst (KnowsPublicationAt contents mask (slice_set c.seats.followers.items n c.offer_at.new.follower) c.offer_at.new.reader.told) (sym e)
-            (known_here contents mask n (slice_set c.seats.followers.items n c.offer_at.new.follower) c.offer_at.new.reader.told c.in-Some-life_of.life
+            (known_here contents mask n (slice_set c.seats.followers.items n c.offer_at.new.follower) c.offer_at.new.reader.told _
             c.offer_at.new.follower named (get_set_same c.seats.followers.items n c.offer_at.new.follower small) c.offer_at.ensures.published)
         | inr ne ↦ elim (cases_lt seat c.seats.next) [
           | inl earlier ↦ known_before contents mask seat c.seats.followers.items (slice_set c.seats.followers.items n c.offer_at.new.follower)
               c.seats.reader.told c.offer_at.new.reader.told (get_set_other c.seats.followers.items n seat c.offer_at.new.follower ne)
               c.offer_at.ensures.reader.1 (inv.published seat earlier)
           | inr later ↦ known_unnamed contents mask seat (slice_set c.seats.followers.items n c.offer_at.new.follower) c.offer_at.new.reader.told
-              (between contents firing mask start c.seats.held.items c.seats.followers.items c.seats.left c.remove.new.self c.seats.next n
+              (between contents firing mask start c.seats.held.items c.seats.followers.items left new c.seats.next n _
               inv.many inv.held c.number-at.ensures.small c.requires.seats inv.left_below inv.left_from inv.done inv.rest inv.at_below first_is before
               seat later (omega (arith, lt, ne)))
         ]
@@ -93,7 +96,7 @@ seats-preserved g c =
                   | inr later ↦ rw (inv.rest seat later)
                       (passed_at contents c.args.reader.now.seen firing mask start log c.requires.script c.requires.look places c.requires.seats h
                       c.offer_at.new.reader.told further seat
-                      (between contents firing mask start c.seats.held.items c.seats.followers.items c.seats.left c.remove.new.self c.seats.next n
+                      (between contents firing mask start c.seats.held.items c.seats.followers.items left new c.seats.next n _
                       inv.many inv.held c.number-at.ensures.small c.requires.seats inv.left_below inv.left_from inv.done inv.rest inv.at_below first_is before
                       seat later (omega (arith, lt, ne))))
                 ])
@@ -114,7 +117,7 @@ returns-clause-published g c = λ seat.
     elim (cases_lt seat c.seats.next) [
       | inl lt ↦ inv.published seat lt
       | inr le ↦ known_unnamed g.J.Traced.contents mask seat c.seats.followers.items c.seats.reader.told
-          (none_from (life_at mask seat) (sym (inv.left_from seat le) ∙ c.in_default.ensures seat))
+          (sym (inv.left_from seat le) ∙ c.in_default.ensures seat)
     ]
 
 pub returns-clause-tracked : goal.returns-clause-tracked
@@ -127,5 +130,5 @@ returns-clause-tracked g c = λ log places h seat.
       | inr le ↦ rw (inv.rest seat le)
           (passed_at contents c.args.reader.now.seen c.args.context.now.firing.now mask c.args.followers.now.items log c.requires.script c.requires.look places
           c.requires.seats h c.seats.reader.told (prefix_trans _ _ _ c.requires.reader inv.told) seat
-          (none_from (life_at mask seat) (sym (inv.left_from seat le) ∙ c.in_default.ensures seat)))
+          (sym (inv.left_from seat le) ∙ c.in_default.ensures seat))
     ]

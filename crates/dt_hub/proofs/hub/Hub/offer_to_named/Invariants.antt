@@ -1,9 +1,10 @@
 -- The seats before the next were offered the firing where they are named; the others are as they were.
-use Rattle.std.proofs.Common.{◌≡◌, ◌≤◌, ◌<◌, ◌-◌, ◌+◌, ◌++◌, ◌∷◌, ℕ, false, List, [], length}
+use Rattle.std.proofs.Common.{◌≡◌, ◌≤◌, ◌<◌, ◌-◌, ◌+◌, ◌++◌, ◌∷◌, ℕ, None, List, [], length}
 use Rattle.std.specs.List.{slice_get}
-use Rattle.std.specs.Option.{is_some, IfSome}
+use Rattle.std.specs.Option.{IfSome}
 use mathlib.Core.List.{IsPrefix}
-use Rattle.dt_chain.specs.Seats.{has, life_at}
+use Rattle.dt_chain.specs.Named.{life_left}
+use Rattle.dt_chain.specs.Seats.{life_at}
 use Rattle.dt_chain.specs.Limits.{seat_count}
 use Rattle.dt_hub.specs.Firings.{ComesToSeat, KnowsPublicationAt}
 use Rattle.dt_facts.specs.declared.fact.Knew.{Knew}
@@ -14,8 +15,8 @@ use Rattle.dt_hub.proofs.hub.Hub.offer_to_named.Given as goal
 abbrev pub invariant-seats : goal.invariant-seats
 invariant-seats g l = let firing = l.context.firing.now in record {
   low : l.next ≤ seat_count;
-  left_below : (seat : ℕ) → seat < l.next → has l.left seat ≡ false;
-  left_from : (seat : ℕ) → l.next ≤ seat → has l.left seat ≡ is_some (life_at l.mask seat);
+  left_below : (seat : ℕ) → seat < l.next → life_left l.left seat ≡ None;
+  left_from : (seat : ℕ) → l.next ≤ seat → life_left l.left seat ≡ life_at l.mask seat;
   done : (seat : ℕ) → seat < l.next
       → ComesToSeat g.J.Traced.contents firing l.mask l.held.items l.fn.followers.items l.followers.items seat;
   rest : (seat : ℕ) → l.next ≤ seat → slice_get l.followers.items seat ≡ slice_get l.fn.followers.items seat;
