@@ -13,6 +13,7 @@ pub mod Rising
 pub mod KeyStarts
 pub mod Joins
 pub mod Sharing
+pub mod Rows
 pub mod Anew
 pub mod Gathering
 pub mod Tables

@@ -1,5 +1,5 @@
 -- Shares and rows while a table is made.
-use Rattle.std.specs.Prelude.{◌≡◌, ◌≢◌, ◌↔◌, ℕ, ℤ, Option, None, Some, Vec, cond, List, [], ◌++◌, map, filter, Contains, FitsSigned, IsPermutation}
+use Rattle.std.specs.Prelude.{◌≡◌, ◌≢◌, ◌↔◌, ℕ, ℤ, Option, None, Some, Vec, cond, List, [], ◌∷◌, ◌++◌, map, filter, Contains, FitsSigned, IsPermutation}
 use Rattle.std.specs.Global.{Global}
 use Rattle.std.specs.Int.{w64}
 use Rattle.std.specs.List.{AllByRecursion, AllZip, flat_map}
@@ -8,8 +8,10 @@ use Rattle.dt_aggfn.specs.Answers.{answer_of_bag}
 use Rattle.dt_aggfn.specs.Cells.{cell_of, IsBag}
 use Rattle.dt_aggstore.specs.Keys.{same_key, IsBelow}
 use Rattle.dt_aggstore.specs.Table.{IsRising, RowForm}
+use Rattle.dt_aggstore.specs.EntryNames.{form_of_row}
 use Rattle.dt_aggstore.specs.declared.key.KeyPart.{KeyPart}
 use Rattle.dt_aggstore.specs.declared.joining.Joined.{Joined}
+use Rattle.dt_aggstore.specs.declared.table.Row.{Row}
 use Rattle.dt_aggstore.specs.declared.share.KeyShare.{KeyShare}
 use Rattle.dt_aggstore.specs.declared.share.ShareCell.{ShareCell}
 use Rattle.dt_aggstore.specs.declared.share.ShareCell.TheVariants.{Word, Words}
@@ -71,6 +73,24 @@ pub record AreSharesInSomeOrder (function : AggFn) (bags : List KeyPart → List
   pub others : List KeyPart → List ℤ
   pub same : (key : List KeyPart) → IsPermutation (bags key) (others key)
   pub are : AreShares function others shares
+
+-- A row is that of a joined one: it has its key, and the answer of the bag whose cell that has.
+abbrev pub IsAnswerRow : AggFn → Joined → Row → Type 0
+IsAnswerRow function joined row =
+    (bag : List ℤ) → IsBag bag → cell_joined joined ≡ cell_of function bag
+    → form_of_row row ≡ record { key = key_of joined; value = answer_of_bag function bag }
+
+-- Rows are being joined from bags: all but the last have their rows in the table.
+pub record AreUnderWay (function : AggFn) (bags : List KeyPart → List ℤ) (last : Joined) (rows : List Row) : Type 0 where
+  pub done : List Joined
+  pub joined : AreJoined function bags (done ++ last ∷ [])
+  pub made : AllZip (IsAnswerRow function) done rows
+
+-- Rows are those of joined ones.
+pub record AreRowsOf (function : AggFn) (bags : List KeyPart → List ℤ) (rows : List Row) : Type 0 where
+  pub done : List Joined
+  pub joined : AreJoined function bags done
+  pub made : AllZip (IsAnswerRow function) done rows
 
 -- Rows of a table are made of joined ones: each has its key, and the answer of its bag.
 abbrev pub MakesRows : AggFn → (List KeyPart → List ℤ) → List Joined → List RowForm → Type 0

@@ -1,24 +1,29 @@
 //! Rows while a table is made.
-ghost use Rattle.std.specs.Prelude.{◌≡◌, ◌<◌, ℤ, List, ◌-◌, true, length, slice_index_or, ◌++◌, IfOk, OnOk, All};
-ghost use Rattle.dt_aggstore.specs.Joining.{cell_joined, cell_shared};
+ghost use Rattle.std.specs.Prelude.{◌≡◌, ◌<◌, ℤ, List, [], ◌∷◌, length, ◌++◌, IfOk, OnOk, All};
+ghost use Rattle.std.specs.List.Sorted.{IsSortedByKey};
+ghost use Rattle.dt_aggstore.specs.Joining.{cell_joined, cell_shared, keys_of, joined_at, shared_key, AreJoined, AreShares, AreUnderWay, IsAnswerRow, AreRowsOf, NoneAfter};
+ghost use Rattle.dt_aggstore.specs.Keys.{key_cmp};
 ghost use Rattle.dt_aggfn.specs.Cells.{cell_words, cell_of, IsBag};
 ghost use Rattle.dt_aggfn.specs.declared.limits.TheConstants.{BAG_LIMIT};
+ghost use Rattle.dt_aggstore.specs.declared.key.KeyPart.{KeyPart};
+ghost use Rattle.dt_aggstore.specs.declared.share.KeyShare.{KeyShare};
 
 use crate::share::KeyShare;
+use crate::table::Row;
 use dt_aggfn::AggFn;
 use std::alloc::{AllocError, Global};
 
 /// The first share of a key, with the shares that were joined to it.
 #[derive(Drop)]
 pub(crate) struct Joined<'a> {
-    pub(crate) share: &'a KeyShare<'a>,
+    share: &'a KeyShare<'a>,
     /// The cell of all values that were joined so far. Where there is one share, it is that one's, and no copy is made.
-    pub(crate) more: Option<Vec<u64>>,
+    more: Option<Vec<u64>>,
 }
 
 impl<'a> Joined<'a> {
     /// The cell of all values that were joined so far.
-    pub(crate) fn cell(&self) -> &[u64]
+    fn cell(&self) -> &[u64]
         ensures { result.now ≡ cell_joined self.now }
     {
         match &self.more {
@@ -28,6 +33,7 @@ impl<'a> Joined<'a> {
     }
 
     /// The same with the cell of a share. `Err`: there was no memory for it.
+    #[inline(never)]
     fn merged(self, alloc: Global, function: AggFn, other: &[u64]) -> Result<Joined<'a>, AllocError>
         requires own { length (cell_joined self) ≡ cell_words function }
         requires others { length other.now ≡ cell_words function }
@@ -48,85 +54,93 @@ impl<'a> Joined<'a> {
             more: Some(cell),
         })
     }
+
+    /// Its row, with what the function answers. `Err`: there was no memory for it.
+    #[inline(always)]
+    fn row(&self, alloc: Global, function: AggFn) -> Result<Row, AllocError>
+        requires { length (cell_joined self.now) ≡ cell_words function }
+        ensures { IfOk result (IsAnswerRow function self.now) }
+    {
+        Ok(Row {
+            key: self.share.key(),
+            value: function.answer(alloc, self.cell())?,
+        })
+    }
 }
 
-/// The rows of one function, in order of key.
-#[derive(Drop)]
-pub(crate) struct Joining<'a> {
-    pub(crate) function: AggFn,
-    pub(crate) rows: Vec<Joined<'a>>,
-    ghost sized: { All (λ row. length (cell_joined row) ≡ cell_words function) rows.items },
+/// The rows of shares that are in order of key. `Err`: there was no memory for them.
+pub(crate) fn rows_of<'a>(
+    alloc: Global,
+    function: AggFn,
+    shares: &'a [KeyShare<'a>],
+) -> Result<Vec<Row>, AllocError>
+    requires words { All (λ (share : KeyShare). length (cell_shared share) ≡ cell_words function) shares.now }
+    requires sorted { IsSortedByKey shared_key key_cmp shares.now }
+    // where shares are of bags, the rows are joined from those
+    ensures { (bags : List KeyPart → List ℤ) → AreShares function bags shares.now
+        → ((key : List KeyPart) → length (bags key) < BAG_LIMIT)
+        → IfOk result (λ rows. AreRowsOf function bags rows.items) }
+{
+    let keys = shares.chunk_by(|one, other| one.has_key_of(other)).count();
+    let rows = Vec::with_capacity(alloc, keys)?;
+    match shares {
+        [] => Ok(rows),
+        [first, later @ ..] => rows_from(alloc, function, rows, first, later),
+    }
 }
 
-impl<'a> Joining<'a> {
-    ghost use Rattle.dt_aggstore.specs.declared.joining.Joined.{Joined};
-    ghost use Rattle.dt_aggstore.specs.Joining.{AreJoined, AreShares, joined_at, key_of, keys_of, shared_key, NoneAfter};
-    ghost use Rattle.dt_aggstore.specs.Keys.{key_cmp, same_key};
-    ghost use Rattle.dt_aggstore.specs.declared.key.KeyPart.{KeyPart};
-    ghost use Rattle.dt_aggstore.specs.declared.share.KeyShare.{KeyShare};
-    ghost use Rattle.std.specs.List.Sorted.{IsSortedByKey};
-
-    /// The rows of shares that are in order of key. `Err`: there was no memory for them.
-    pub(crate) fn of(
-        alloc: Global,
-        function: AggFn,
-        shares: &'a [KeyShare<'a>],
-    ) -> Result<Self, AllocError>
-        requires words { All (λ (share : KeyShare). length (cell_shared share) ≡ cell_words function) shares.now }
-        requires sorted { IsSortedByKey shared_key key_cmp shares.now }
-        ensures function { IfOk result (λ joining. joining.function ≡ function) }
-        // where shares are of bags, the rows are joined from those
-        ensures rows { (bags : List KeyPart → List ℤ) → AreShares function bags shares.now
-            → ((key : List KeyPart) → length (bags key) < BAG_LIMIT)
-            → IfOk result (λ joining. AreJoined function bags joining.rows.items) }
-    {
-        let mut joining = Joining {
-            function,
-            rows: Vec::new(alloc),
-        };
-        for share in shares {
-            joining.join(alloc, share)?;
-        }
-        Ok(joining)
+/// The rows of a first share and of later ones. `Err`: there was no memory for them.
+fn rows_from<'a>(
+    alloc: Global,
+    function: AggFn,
+    mut rows: Vec<Row>,
+    first: &'a KeyShare<'a>,
+    later: &'a [KeyShare<'a>],
+) -> Result<Vec<Row>, AllocError>
+    requires empty { rows.items ≡ [] }
+    requires first_words { length (cell_shared first.now) ≡ cell_words function }
+    requires words { All (λ (share : KeyShare). length (cell_shared share) ≡ cell_words function) later.now }
+    requires sorted { IsSortedByKey shared_key key_cmp (first.now ∷ later.now) }
+    ensures { (bags : List KeyPart → List ℤ) → AreShares function bags (first.now ∷ later.now)
+        → ((key : List KeyPart) → length (bags key) < BAG_LIMIT)
+        → IfOk result (λ rows. AreRowsOf function bags rows.items) }
+{
+    let mut last = Joined {
+        share: first,
+        more: None,
+    };
+    for share in later {
+        last = join(alloc, function, &mut rows, last, share)?;
     }
+    rows.push(last.row(alloc, function)?)?;
+    Ok(rows)
+}
 
-    /// Joins a share. `Err`: there was no memory for a new row.
-    fn join(&mut self, alloc: Global, share: &'a KeyShare<'a>) -> Result<(), AllocError>
-        requires { length (cell_shared share.now) ≡ cell_words self.old.function }
-        ensures function { self.new.function ≡ self.old.function }
-        // On success rows joined from bags, of which none comes after the share's key, are those of the same bags with
-        // the share's added at its key.
-        ensures joins { (bags : List KeyPart → List ℤ) (bag : List ℤ)
-            → AreJoined self.old.function bags self.old.rows.items
-            → NoneAfter (shared_key share.now) (keys_of self.old.rows.items)
-            → length (bags (shared_key share.now)) < BAG_LIMIT
-            → IsBag bag → cell_shared share.now ≡ cell_of self.old.function bag
-            → OnOk result (AreJoined self.old.function (joined_at (shared_key share.now) bag bags)
-            self.new.rows.items) }
-    {
-        // rows rise by key, and the share's key is before none of theirs: if it has a row, that is the last one
-        if !self.ends_with(share) {
-            self.rows.push(Joined { share, more: None })?;
-            return Ok(());
-        }
-        let Some(last) = self.rows.pop() else {
-            unreachable!()
-        };
-        let joined = last.merged(alloc, self.function, share.cell())?;
-        self.rows.push(joined)?;
-        Ok(())
+/// Joins a share to the last that was joined, if it is of the same key. Otherwise the last one's row is made, and this share is
+/// the last. `Err`: there was no memory for it.
+#[inline(always)]
+fn join<'a>(
+    alloc: Global,
+    function: AggFn,
+    rows: &mut Vec<Row>,
+    last: Joined<'a>,
+    share: &'a KeyShare<'a>,
+) -> Result<Joined<'a>, AllocError>
+    requires own { length (cell_joined last) ≡ cell_words function }
+    requires others { length (cell_shared share.now) ≡ cell_words function }
+    ensures words { IfOk result (λ joined. length (cell_joined joined) ≡ cell_words function) }
+    // Rows joined from bags, of which none comes after the share's key, are those of the same bags with the share's added at
+    // its key.
+    ensures joins { (bags : List KeyPart → List ℤ) (bag : List ℤ)
+        → (so_far : AreUnderWay function bags last.entry rows.old.items)
+        → NoneAfter (shared_key share.now) (keys_of (so_far.done ++ last.entry ∷ []))
+        → length (bags (shared_key share.now)) < BAG_LIMIT
+        → IsBag bag → cell_shared share.now ≡ cell_of function bag
+        → IfOk result (λ joined. AreUnderWay function (joined_at (shared_key share.now) bag bags) joined rows.new.items) }
+{
+    if last.share.has_key_of(share) {
+        return last.merged(alloc, function, share.cell());
     }
-
-    /// Whether the last row has the key of this share.
-    fn ends_with(&self, share: &KeyShare<'_>) -> bool
-        ensures some { result ≡ true → 0 < length self.now.rows.items }
-        ensures last { (row : Joined) → 0 < length self.now.rows.items
-            → result ≡ same_key (key_of (slice_index_or self.now.rows.items (length self.now.rows.items - 1) row))
-            (shared_key share.now) }
-    {
-        match self.rows.last() {
-            Some(row) => row.share.has_key_of(share),
-            None => false,
-        }
-    }
+    rows.push(last.row(alloc, function)?)?;
+    Ok(Joined { share, more: None })
 }

@@ -96,6 +96,7 @@ impl Key {
 
     /// How this key and another are ordered: the first position that differs decides, and a key that ends there
     /// comes first.
+    #[inline(never)]
     pub(crate) fn order(&self, other: &Key) -> Ordering
         ensures { result ≡ key_cmp self.now.parts.items other.now.parts.items }
     {

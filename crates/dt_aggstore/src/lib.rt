@@ -19,6 +19,7 @@ mod laws;
 mod limit_laws;
 mod limits;
 mod part_start;
+mod recent_texts;
 mod share;
 mod store;
 mod table;

@@ -17,8 +17,5 @@ pub(crate) const COST_MIN: usize = 16;
 /// For how many aggregations, by their numbers, a store remembers an entry each: as many as a consumer has at most.
 pub(crate) const RECENT_MAX: usize = 64;
 
-/// How many bytes of a text are held by value where keys are sorted.
-pub(crate) const START_BYTES: usize = 14;
-
-/// How many bytes a text has after those.
-pub(crate) const REST_BYTES: usize = 32 - START_BYTES;
+/// How many texts are remembered where keys are sorted.
+pub(crate) const RECENT_TEXTS_MAX: usize = 256;

@@ -1,50 +1,60 @@
-//! How the parts of keys begin, held by value.
-ghost use Rattle.std.specs.Prelude.{◌≡◌, ◌≢◌, Bool, false, IfSome};
-ghost use Rattle.dt_aggstore.specs.KeyStarts.{zero_filled, start_of_part, part_starts_tell, told};
+//! Parts of keys, where they begin one: numbers by value, texts by reference.
+ghost use Rattle.std.specs.Prelude.{◌≡◌, ◌<◌, [], ◌∷◌, ◌++◌, length, false, IfSome, Some};
+ghost use Rattle.dt_aggstore.specs.declared.limits.TheConstants.{KEYS_MAX};
 ghost use Rattle.dt_aggstore.specs.declared.key.KeyPart.{KeyPart as Part};
+ghost use Rattle.dt_aggstore.specs.KeyStarts.{part_begun, part_starts_tell, told};
 
 use crate::key::KeyPart;
-use crate::limits::START_BYTES;
+use crate::limits::KEYS_MAX;
+use crate::recent_texts::RecentTexts;
+use arrayvec::ArrayVec;
 use std::cmp::Ordering;
 
-/// How a part of a key begins, and whether it is open: its key may have more than this. A text of few bytes is held
-/// whole.
+/// A part of a key, and whether more follow that are not held. Of a text there is a reference, to a copy that many keys share.
 #[derive(Clone, Copy)]
-pub(crate) enum PartStart {
+pub(crate) enum PartStart<'a> {
     /// The key has no such part.
     Nothing,
     Number(bool, i64),
-    /// The first bytes.
-    Text(bool, [u8; START_BYTES]),
+    Text(bool, &'a [u8; 32]),
 }
 
-impl PartStart {
-    ghost use Rattle.dt_aggstore.specs.declared.part_start.PartStart.TheVariants.{Nothing};
-
-    /// How this part begins, after which more parts follow or none.
-    pub(crate) fn of(part: &KeyPart, more: bool) -> Self
-        ensures { result ≡ start_of_part more part.now }
+impl<'a> PartStart<'a> {
+    /// This part, after which more parts follow or none.
+    pub(crate) fn of(part: &'a KeyPart, more: bool, texts: &mut RecentTexts<'a>) -> Self
+        ensures { part_begun result ≡ Some (more, part.now) }
     {
         match part {
             KeyPart::Number(number) => PartStart::Number(more, *number),
-            KeyPart::Text(bytes) => {
-                let mut start = [0; START_BYTES];
-                start.copy_from_slice(&bytes[..START_BYTES]);
-                PartStart::Text(more || *bytes != text_of(&start), start)
-            }
+            KeyPart::Text(text) => PartStart::Text(more, texts.shared(text)),
         }
     }
 
-    /// How parts that begin so are ordered. `None`: they begin alike, and one is open.
+    /// How keys are ordered that go on so after parts that are the same. `None`: these parts are the same too, and one key has
+    /// more.
     #[inline(always)]
-    pub(crate) fn order(&self, other: &PartStart) -> Option<Ordering>
-        ensures { result ≡ part_starts_tell self.now other.now }
+    pub(crate) fn order(&self, other: &PartStart<'_>) -> Option<Ordering>
+        ensures { result ≡ part_starts_tell (part_begun self.now) (part_begun other.now) }
     {
+        // most parts that decide are numbers: what orders those is short enough to stand in the loop of a sort
         match (self, other) {
             (PartStart::Number(more, one), PartStart::Number(other_more, other)) => {
                 tell(*more || *other_more, one.cmp(other))
             }
+            _ => self.order_of_kinds(other),
+        }
+    }
+
+    /// The same, whatever kinds they are of.
+    #[inline(never)]
+    fn order_of_kinds(&self, other: &PartStart<'_>) -> Option<Ordering>
+        ensures { result ≡ part_starts_tell (part_begun self.now) (part_begun other.now) }
+    {
+        match (self, other) {
             (PartStart::Text(more, one), PartStart::Text(other_more, other)) => {
+                tell(*more || *other_more, (**one).cmp(*other))
+            }
+            (PartStart::Number(more, one), PartStart::Number(other_more, other)) => {
                 tell(*more || *other_more, one.cmp(other))
             }
             (PartStart::Nothing, PartStart::Nothing) => Some(Ordering::Equal),
@@ -55,23 +65,28 @@ impl PartStart {
         }
     }
 
-    /// The part that begins so, if it isn't open, and there is one.
-    pub(crate) fn part(&self) -> Option<KeyPart>
-        ensures some { IfSome result (λ part. self.now ≢ Nothing) }
-        ensures whole { IfSome result (λ part. (more : Bool) (p : Part) → start_of_part more p ≡ self.now
-            → part ≡ p) }
-        ensures last { IfSome result (λ part. (more : Bool) (p : Part) → start_of_part more p ≡ self.now
-            → more ≡ false) }
+    /// Puts the part behind others, if there is one, and no more follow. `None`: it doesn't.
+    #[inline(always)]
+    pub(crate) fn put_last(&self, parts: &mut ArrayVec<KeyPart, KEYS_MAX>) -> Option<()>
+        requires { length parts.old.items < KEYS_MAX }
+        ensures { IfSome result (λ _. (part : Part) × (part_begun self.now ≡ Some (false, part))
+            × (parts.new.items ≡ parts.old.items ++ part ∷ [])) }
     {
         match self {
-            PartStart::Number(false, number) => Some(KeyPart::Number(*number)),
-            PartStart::Text(false, bytes) => Some(KeyPart::Text(text_of(bytes))),
+            PartStart::Number(false, number) => {
+                parts.push(KeyPart::Number(*number));
+                Some(())
+            }
+            PartStart::Text(false, text) => {
+                parts.push(KeyPart::Text(**text));
+                Some(())
+            }
             _ => None,
         }
     }
 }
 
-/// What an order tells of two parts, of which one is open or none.
+/// What an order tells of two parts, after one of which more follow or none.
 #[inline(always)]
 fn tell(more: bool, order: Ordering) -> Option<Ordering>
     ensures { result ≡ told more order }
@@ -80,13 +95,4 @@ fn tell(more: bool, order: Ordering) -> Option<Ordering>
         Ordering::Equal if more => None,
         order => Some(order),
     }
-}
-
-/// The text that has these first bytes, and else zeros.
-fn text_of(start: &[u8; START_BYTES]) -> [u8; 32]
-    ensures { result ≡ zero_filled start.now }
-{
-    let mut text = [0; 32];
-    text[..START_BYTES].copy_from_slice(start);
-    text
 }

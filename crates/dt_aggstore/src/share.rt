@@ -1,9 +1,10 @@
 //! What single stores have of an aggregation's keys, before it is joined.
 ghost use Rattle.std.specs.Prelude.{◌≡◌};
-ghost use Rattle.dt_aggstore.specs.KeyStarts.{start_of_key};
+ghost use Rattle.dt_aggstore.specs.KeyStarts.{start_begun, start_of_key};
 
 use crate::key::Key;
 use crate::key_start::KeyStart;
+use crate::recent_texts::RecentTexts;
 use std::cmp::Ordering;
 
 /// The cell that one store has of a key. One word is held by value: it is read where a store is gone over in order, and
@@ -39,10 +40,10 @@ impl<'a> ShareCell<'a> {
 /// A key with the cell that one store has of it.
 #[derive(Clone, Copy)]
 pub(crate) struct KeyShare<'a> {
-    start: KeyStart,
+    start: KeyStart<'a>,
     pub(crate) key: &'a Key,
     cell: ShareCell<'a>,
-    ghost begins: { start ≡ start_of_key key.now.parts.items },
+    ghost begins: { start_begun start ≡ start_of_key key.now.parts.items },
 }
 
 impl<'a> KeyShare<'a> {
@@ -55,12 +56,12 @@ impl<'a> KeyShare<'a> {
     ghost use Rattle.dt_aggstore.specs.declared.share.KeyShare.{KeyShare};
 
     /// The share of a key with this cell.
-    pub(crate) fn of(key: &'a Key, cell: &'a [u64]) -> Self
+    pub(crate) fn of(key: &'a Key, cell: &'a [u64], texts: &mut RecentTexts<'a>) -> Self
         ensures key { result.key.now ≡ key.now }
         ensures cell { cell_shared result ≡ cell.now }
     {
         KeyShare {
-            start: KeyStart::of(key),
+            start: KeyStart::of(key, texts),
             key,
             cell: ShareCell::of(cell),
         }
@@ -74,6 +75,7 @@ impl<'a> KeyShare<'a> {
     }
 
     /// How the keys of this share and another are ordered.
+    #[inline(always)]
     fn order(&self, other: &KeyShare<'_>) -> Ordering
         ensures { result ≡ key_cmp (shared_key self.now) (shared_key other.now) }
     {

@@ -1,12 +1,11 @@
 //! The table of an aggregation over the stores of all processors.
-ghost use Rattle.std.specs.Prelude.{◌≡◌, ◌≤◌, ◌<◌, ◌+◌, ℤ, List, ◌++◌, map, length, All, IfOk, OnOk};
+ghost use Rattle.std.specs.Prelude.{◌≡◌, ◌≤◌, ℤ, List, ◌++◌, map, length, All, IfOk, OnOk};
 ghost use Rattle.std.specs.List.{AllZip};
-ghost use Rattle.dt_aggfn.specs.declared.limits.TheConstants.{BAG_LIMIT};
 ghost use Rattle.dt_aggstore.specs.EntryNames.{form_of_row};
 ghost use Rattle.dt_aggstore.specs.History.{Past};
 ghost use Rattle.dt_aggstore.specs.Held.{bag};
 ghost use Rattle.dt_aggstore.specs.IsAt.{IsAt};
-ghost use Rattle.dt_aggstore.specs.Joining.{cell_shared, AreJoined, AreShares, MakesRows};
+ghost use Rattle.dt_aggstore.specs.Joining.{cell_shared, AreShares};
 ghost use Rattle.dt_aggstore.specs.Table.{IsTable};
 ghost use Rattle.dt_aggstore.specs.TableOf.{table_of};
 ghost use Rattle.dt_aggfn.specs.Cells.{cell_words};
@@ -15,9 +14,10 @@ ghost use Rattle.dt_aggstore.specs.declared.share.KeyShare.{KeyShare};
 ghost use Rattle.dt_aggstore.specs.declared.limits.TheConstants.{STORES_MAX};
 
 use crate::cells::cell_at;
-use crate::joining::Joining;
+use crate::joining::rows_of;
 use crate::key::{Aggregation, Key};
 use crate::limits::STORES_MAX;
+use crate::recent_texts::RecentTexts;
 use crate::share::KeyShare;
 use crate::store::AggStore;
 use dt_aggfn::{CellAnswer, any_order, cell_length};
@@ -46,20 +46,21 @@ impl AggStore {
             → IfOk result (λ rows. map form_of_row rows.items ≡ table_of pasts aggregation) }
     {
         let mut shares = Vec::new(alloc);
+        let mut texts = RecentTexts::new();
         for store in stores {
-            store.share_into(aggregation, &mut shares)?;
+            store.share_into(aggregation, &mut texts, &mut shares)?;
         }
         // where several stores have a key, the order in which their bags are joined doesn't matter
         any_order();
         KeyShare::sort(&mut shares);
-        let joining = Joining::of(alloc, aggregation.function, &shares)?;
-        rows_of(alloc, &joining)
+        rows_of(alloc, aggregation.function, &shares)
     }
 
     /// Puts what this store has of an aggregation's keys at the end of shares. `Err`: there was no memory for it.
     fn share_into<'a>(
         &'a self,
         aggregation: Aggregation,
+        texts: &mut RecentTexts<'a>,
         shares: &mut Vec<KeyShare<'a>>,
     ) -> Result<(), AllocError>
         ensures words { All (λ (share : KeyShare). length (cell_shared share) ≡ cell_words aggregation.function)
@@ -77,27 +78,10 @@ impl AggStore {
             let words = name.aggregation.function.cell_words();
             if aggregation.is(name.aggregation) {
                 let cell = cell_at(&self.cells, place, words);
-                shares.push(KeyShare::of(&name.key, cell))?;
+                shares.push(KeyShare::of(&name.key, cell, texts))?;
             }
             place += words;
         }
         Ok(())
     }
-}
-
-/// The rows with what they answer. `Err`: there was no memory for them.
-fn rows_of(alloc: Global, joining: &Joining<'_>) -> Result<Vec<Row>, AllocError>
-    ensures { (bags : List KeyPart → List ℤ) → AreJoined joining.now.function bags joining.now.rows.items
-        → ((key : List KeyPart) → length (bags key) < BAG_LIMIT)
-        → IfOk result (λ rows. MakesRows joining.now.function bags joining.now.rows.items
-        (map form_of_row rows.items)) }
-{
-    let mut rows = Vec::with_capacity(alloc, joining.rows.len())?;
-    for row in &joining.rows {
-        rows.push(Row {
-            key: row.share.key(),
-            value: joining.function.answer(alloc, row.cell())?,
-        })?;
-    }
-    Ok(rows)
 }

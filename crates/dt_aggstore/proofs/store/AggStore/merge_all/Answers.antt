@@ -1,22 +1,18 @@
 -- One store more is shared.
-use Rattle.std.proofs.Common.{◌≡◌, ◌<◌, ℤ, List, length, Result, refl, sym, subst, arith}
-use Rattle.std.specs.Prelude.{All, map, IfOk}
+use Rattle.std.proofs.Common.{◌≡◌, ◌<◌, ℤ, List, length, refl, sym, subst, arith}
+use Rattle.std.specs.Prelude.{All, map}
 use Rattle.dt_aggfn.specs.declared.limits.TheConstants.{BAG_LIMIT}
-use Rattle.dt_aggfn.specs.declared.function.AggFn.{AggFn}
 use Rattle.dt_aggstore.specs.EntryNames.{form_of_row}
 use Rattle.dt_aggstore.specs.Table.{joined_bag}
-use Rattle.dt_aggstore.specs.Joining.{cell_shared, AreJoined, AreShares, MakesRows}
+use Rattle.dt_aggstore.specs.Joining.{cell_shared, AreShares}
 use Rattle.dt_aggstore.specs.declared.share.KeyShare.{KeyShare}
 use Rattle.dt_aggfn.specs.Cells.{cell_words}
 use Rattle.std.proofs.lemmas.List.Elements.{All-nil}
 use Rattle.std.proofs.lemmas.List.Sorted.{length_permutation}
 use Rattle.dt_aggstore.proofs.Sharing.{none_shared}
 use Rattle.dt_aggstore.proofs.Anew.{joined_anew}
+use Rattle.dt_aggstore.proofs.Rows.{rows_made}
 use Rattle.std.proofs.lemmas.Result.{IfOk-weaker}
-use Rattle.std.specs.Global.{Vec}
-use Rattle.std.specs.declared.alloc.AllocError.{AllocError}
-use Rattle.dt_aggstore.specs.declared.joining.Joined.{Joined}
-use Rattle.dt_aggstore.specs.declared.table.Row.{Row}
 use Rattle.dt_aggstore.proofs.Rising.{Key}
 use Rattle.dt_aggstore.proofs.Tables.{choices_of, choices_are, store_shared, all_shared, all_short}
 use Rattle.dt_aggstore.proofs.Tables.{table_is, one_table}
@@ -42,17 +38,11 @@ loop-store-preserved c = record {
       c.in_ok-share_into.ensures.shares (c.loop-store.invariant.shares pasts at);
 }
 
-pub of-requires-clause-words : goal.of-requires-clause-words
-of-requires-clause-words c =
+pub rows_of-requires-clause-words : goal.rows_of-requires-clause-words
+rows_of-requires-clause-words c =
     subst (All (λ (share : KeyShare). length (cell_shared share) ≡ cell_words c.args.aggregation.function))
     (sym c.deref.ensures.value)
     (c.sort.ensures.words (cell_words c.args.aggregation.function) c.loop-store.invariant.words)
-
--- what the rows of a function are
-abbrev AnswersRows : Result (Vec Row) AllocError → List Joined → AggFn → Type 0
-AnswersRows result rows function =
-    (bags : Key → List ℤ) → AreJoined function bags rows → ((key : Key) → length (bags key) < BAG_LIMIT)
-    → IfOk result (λ made. MakesRows function bags rows (map form_of_row made.items))
 
 pub returns-clause-table : goal.returns-clause-table
 returns-clause-table c = λ pasts at.
@@ -67,16 +57,13 @@ returns-clause-table c = λ pasts at.
     let anew = c.sort.ensures.bags aggregation.function bags shares in
     let few_anew : (key : Key) → length (anew.others key) < BAG_LIMIT =
     λ key. omega (arith, few key, length_permutation (bags key) (anew.others key) (anew.same key)) in
-    let j = joined_anew c.any_order.ensures.cell aggregation.function bags anew.others c.in_ok-joining.joining.rows.items
-    anew.same
-    (c.in_ok-joining.ensures.rows anew.others
-    (subst (AreShares aggregation.function anew.others) (sym c.deref.ensures.value) anew.are) few_anew) in
-    let answers = subst (AnswersRows c.rows_of.result c.in_ok-joining.joining.rows.items)
-    c.in_ok-joining.ensures.function c.rows_of.ensures in
     IfOk-weaker c.rows_of.result _ _
-    (λ made m. table_is aggregation pasts choices c.in_ok-joining.joining.rows.items (map form_of_row made.items)
-    (choices_are pasts stores at) j m)
-    (answers bags j few)
+    (λ made rows.
+    let j = joined_anew c.any_order.ensures.cell aggregation.function bags anew.others rows.done anew.same rows.joined in
+    table_is aggregation pasts choices rows.done (map form_of_row made.items) (choices_are pasts stores at) j
+    (rows_made aggregation.function bags rows.done made.items j few rows.made))
+    (c.rows_of.ensures anew.others
+    (subst (AreShares aggregation.function anew.others) (sym c.deref.ensures.value) anew.are) few_anew)
 
 pub returns-clause-value : goal.returns-clause-value
 returns-clause-value c = λ pasts at.
