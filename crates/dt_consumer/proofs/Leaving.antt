@@ -62,7 +62,7 @@ one_dropped past cpu j id bytes true e =
 one_dropped past cpu j id bytes false e =
     ap (λ b. cond (b && (is_in_use id past.events && nat_lt past.specsize (length (part_bytes past id j) + length bytes))) 1 0) e
 
-no_more : (n : ℕ) (b : Bool) → n ≡ n + cond b 0 0
+pub no_more : (n : ℕ) (b : Bool) → n ≡ n + cond b 0 0
 no_more n true = omega arith
 no_more n false = omega arith
 
@@ -133,7 +133,7 @@ module _ (account : Account) (registry : Registry) (s : SetUp) (steps : List Tra
       ++ parts_out j (specs_then (specs_of s.options steps) (draws_of t ++ puts_by cpu left))
       (option_map_or (λ (form : TakenForm). form.ends) left [])
 
-  abbrev tally_of : ℕ → List BufferEvent → ℕ → ℕ → Tally
+  abbrev pub tally_of : ℕ → List BufferEvent → ℕ → ℕ → Tally
   tally_of j events errors specdrops = record {
     came = record {
       policy = s.options.bufpolicy;
@@ -184,7 +184,7 @@ module _ (account : Account) (registry : Registry) (s : SetUp) (steps : List Tra
   abbrev pub known_tally : ℕ → Tally
   known_tally j = tally_of j (comes_by_steps j steps) (errors_after steps j) (spec_drops (specs_of s.options steps) j)
 
-  told_is : (j : ℕ) (outcome : Outcome) → t.taken.outcome ≡ outcome
+  pub told_is : (j : ℕ) (outcome : Outcome) → t.taken.outcome ≡ outcome
       → told j outcome ≡ tally_after account registry s (steps ++ takes t ∷ []) j
   told_is j outcome e = ap (told j) (sym e) ∙ tally_more j
 
@@ -323,7 +323,7 @@ module _ (account : Account) (registry : Registry) (s : SetUp) (steps : List Tra
       by_place false = known_last none j
 
   -- what the taking assigned is counted on its processor
-  known_drops : (before after rose : ℕ) → before ≡ local_drops (locals_of s.options steps)
+  pub known_drops : (before after rose : ℕ) → before ≡ local_drops (locals_of s.options steps)
       → after ≡ local_drops (locals_then (locals_of s.options steps) (assignments_of t)) → rose ≡ after - before
       → dynamic_drops s.options steps cpu + rose ≡ dynamic_drops s.options (steps ++ takes t ∷ []) cpu
   known_drops before after rose e f g =

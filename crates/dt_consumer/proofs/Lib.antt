@@ -17,5 +17,6 @@ pub mod Idle
 pub mod Telling
 pub mod StoresTold
 pub mod Quiet
+pub mod BareRecords
 pub mod Closing
 pub mod Drafting

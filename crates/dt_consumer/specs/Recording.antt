@@ -1,9 +1,17 @@
--- Of which clauses it is known that they leave a record. `StandsFor` needs no part of it.
-use Rattle.std.specs.Prelude.{Bool, List, map}
+-- What is known of clauses before they are taken. `StandsFor` needs no part of it.
+use Rattle.std.specs.Prelude.{List, map}
 use Rattle.dt_lang.specs.Program.{form_of_clause}
 use Rattle.dt_program.specs.declared.clause.Clause.{Clause}
-use Rattle.dt_record.specs.Taking.{leaves_record}
+use Rattle.dt_record.specs.Taking.{leaves_record, only_records}
+use Rattle.dt_consumer.specs.declared.outline.Outline.{Outline}
 
--- of each clause, whether it leaves a record
-abbrev pub leave_records : List Clause → List Bool
-leave_records clauses = map (λ clause. leaves_record (form_of_clause clause).statements) clauses
+-- whether a clause leaves a record, and whether it does nothing else
+abbrev pub outline_of : Clause → Outline
+outline_of clause = record {
+  leaves_record = leaves_record (form_of_clause clause).statements;
+  only_records = only_records (form_of_clause clause).statements;
+}
+
+-- that of each clause
+abbrev pub outlines_of : List Clause → List Outline
+outlines_of clauses = map outline_of clauses

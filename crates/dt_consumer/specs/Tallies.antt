@@ -7,7 +7,7 @@ use Rattle.dt_buffer.specs.IsAt.{BufferIsAt}
 use Rattle.dt_buffer.specs.declared.policy.Policy.{Policy}
 use Rattle.dt_life.specs.Buffers.{followed_by}
 use Rattle.dt_life.specs.Takings.{puts_in}
-use Rattle.dt_record.specs.Taking.{TakenForm}
+use Rattle.dt_record.specs.Taking.{Outcome, TakenForm, abandoned, leaves, passed_over}
 use Rattle.dt_speculation.specs.History.{SpecPast}
 use Rattle.dt_speculation.specs.Parts.{is_dropped}
 use Rattle.dt_consumer.specs.declared.processor.Processor.{Processor}
@@ -56,6 +56,17 @@ with_left in_end cpu specs form tally = record {
   dyndrops = tally.dyndrops;
   specdrops = tally.specdrops + count_by (is_dropped cpu specs) (puts_in cpu form);
 }
+
+-- a tally, and then what comes of a clause that ends no speculation: its record is attempted at the buffer, or an error counted
+abbrev pub with_outcome : Bool → Outcome → Tally → Tally
+with_outcome in_end abandoned tally = record {
+  came = tally.came;
+  errors = tally.errors + 1;
+  dyndrops = tally.dyndrops;
+  specdrops = tally.specdrops;
+}
+with_outcome in_end passed_over tally = tally
+with_outcome in_end (leaves form) tally = with_records in_end (option_to_list (record_in form)) tally
 
 -- one tally changes
 abbrev pub changed_at : (ℕ → Tally) → (cpu : ℕ) → Tally → ℕ → Tally

@@ -13,6 +13,7 @@ mod draft;
 mod drafts;
 mod ecb_lists;
 mod enabled;
+mod outline;
 mod processor;
 mod processors;
 mod programs;

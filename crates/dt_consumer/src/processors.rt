@@ -9,26 +9,31 @@ use crate::enabled::Enabled;
 use crate::processor::Processor;
 use crate::programs::Programs;
 use crate::uses::Uses;
+use arrayvec::ArrayVec;
 use dt_aggstore::{AggStore, Aggregation};
 use dt_cred::Account;
 use dt_ecb::Ecb;
-use dt_expr::EvalFault;
+use dt_expr::{EvalFault, Scene};
+use dt_lang::Clause;
 use dt_life::{Context, END, Options, empty_stores, own_firing, own_process, scene_at};
 use dt_locals::Locals;
 use dt_machine::Machine;
-use dt_record::Taken;
+use dt_record::{RECORD_MAX, Taken, record_only};
 use dt_speculation::{SpecPut, Specs, drops_told};
 use std::alloc::{AllocError, Global};
 
 /// What a consumer has of its processors from its `go` on, each with its store of aggregations; its thread-local variables and its
-/// speculations, which are those of all processors; and the place in which what a clause leaves is made.
+/// speculations, which are those of all processors; and the places in which what a clause leaves is made: a bare record has its own.
+///
+/// What each firing needs lies together, at the end: the large place before it, for what seldom clauses leave, is then not between.
 #[derive(Drop)]
 pub(crate) struct Processors {
-    pub(crate) all: Vec<Processor>,
     pub(crate) stores: Vec<AggStore>,
     pub(crate) locals: Locals,
     pub(crate) specs: Specs,
     left: Taken,
+    pub(crate) all: Vec<Processor>,
+    record: ArrayVec<u8, RECORD_MAX>,
     ghost some: { 1 ≤ vec_len all },
     ghost each: { vec_len stores ≡ vec_len all },
     ghost few: { vec_len stores ≤ STORES_MAX },
@@ -49,7 +54,7 @@ impl Processors {
     ghost use Rattle.dt_consumer.specs.Keeps.{AreAfter};
     ghost use Rattle.dt_consumer.specs.Uses.{AreUses};
     ghost use Rattle.dt_lang.specs.Program.{form_of_clause};
-    ghost use Rattle.dt_consumer.specs.Tallies.{AreTallied, Tally, changed_at, new_tally, with_left, with_records};
+    ghost use Rattle.dt_consumer.specs.Tallies.{AreTallied, Tally, changed_at, new_tally, with_left, with_outcome, with_records};
     ghost use Rattle.dt_life.specs.Takings.{puts_in};
     ghost use Rattle.dt_cred.specs.declared.account.Account.{Account};
     ghost use Rattle.dt_life.specs.Buffers.{comes_by_steps, reserve_on};
@@ -63,7 +68,11 @@ impl Processors {
     ghost use Rattle.dt_machine.specs.Context.{form_of_context};
     ghost use Rattle.dt_machine.specs.Registry.{Registry};
     ghost use Rattle.dt_program.specs.declared.clause.TheConstants.{STATEMENTS_MAX};
+    ghost use Rattle.dt_expr.specs.Scene.{scene_of};
+    ghost use Rattle.dt_locals.specs.LocalsAreAt.{LocalsAreAt};
     ghost use Rattle.dt_record.specs.Forms.{form_of_taken};
+    ghost use Rattle.dt_record.specs.Pasts.{TracingPast};
+    ghost use Rattle.dt_record.specs.Taking.{only_records, taking};
     ghost use Rattle.dt_speculation.specs.History.{SpecPast, specs_then};
     ghost use Rattle.dt_speculation.specs.IsAt.{SpecsAt, fails_of};
 
@@ -92,6 +101,7 @@ impl Processors {
             locals: Locals::new(alloc, options.dynvarsize)?,
             specs: Specs::new(alloc, options.nspec, options.specsize, cpus as usize)?,
             left: Taken::new(),
+            record: ArrayVec::new(),
         })
     }
 
@@ -207,7 +217,7 @@ impl Processors {
     {
         let enabled = Enabled {
             clauses: programs.clauses(),
-            records: programs.records(),
+            outlines: programs.outlines(),
             uses,
         };
         let process = own_process(account);
@@ -220,8 +230,8 @@ impl Processors {
         self.take_end(&enabled, list, &context);
     }
 
-    /// Takes one ECB, and answers the status that it exits with, if it exits: what it assigns and draws is done, its record goes into the
-    /// processor's buffer or to a speculation, then its values into the store, and then speculations end.
+    /// Takes one ECB, and answers the status that it exits with, if it exits. A clause that does nothing but record is taken here, and needs
+    /// nothing of what others do.
     #[inline(always)]
     fn take_one(
         &mut self,
@@ -248,15 +258,54 @@ impl Processors {
             → IsEnabledBy s enabled.now → AreAfter account registry s steps self.old
             → result ≡ exit_of (taking_by in_end s.options steps (form_of_context context.now) s.clauses ecb) }
     {
+        let outline = enabled.outlines[ecb.clause];
+        if !outline.only_records {
+            return self.take_whole(enabled, ecb, context, in_end);
+        }
+        let clause = &enabled.clauses[ecb.clause];
+        let scene = scene_at(context, ecb.epid);
+        let cpu = context.firing.cpu as usize;
+        self.record_one(ecb.epid, clause, &scene, cpu, in_end);
+        None
+    }
+
+    /// Takes one ECB, whatever its clause does: what it assigns and draws is done, its record goes into the
+    /// processor's buffer or to a speculation, then its values into the store, and then speculations end.
+    #[inline(always)]
+    fn take_whole(
+        &mut self,
+        enabled: &Enabled<'_>,
+        ecb: Ecb,
+        context: &Context,
+        in_end: bool,
+    ) -> Option<i64>
+        requires there { context.now.firing.now.cpu < vec_len self.old.all }
+        requires placed { ecb.clause < length enabled.now.clauses.now }
+        requires counts { All (AtMost (DROPS_LIMIT - COMES_BY_ONE)) self.old.all.items }
+        requires fails { FailsAtMost (DROPS_LIMIT - COMES_BY_ONE) self.old }
+        requires gives { All (GivenAtMost (ADDED_LIMIT - STATEMENTS_MAX)) self.old.stores.items }
+        ensures len { vec_len self.new.all ≡ vec_len self.old.all }
+        ensures counts { (n : ℕ) → All (AtMost n) self.old.all.items → All (AtMost (n + COMES_BY_ONE)) self.new.all.items }
+        ensures fails { (n : ℕ) → FailsAtMost n self.old → FailsAtMost (n + COMES_BY_ONE) self.new }
+        ensures gives { (n : ℕ) → All (GivenAtMost n) self.old.stores.items → All (GivenAtMost (n + STATEMENTS_MAX)) self.new.stores.items }
+        ensures after { (account : Account) (registry : Registry) (s : SetUp) (steps : List TracingStep)
+            → IsEnabledBy s enabled.now → AreAfter account registry s steps self.old
+            → (in_end ≡ false → (cpu : ℕ) → of_end (comes_by_steps cpu steps) ≡ [])
+            → AreAfter account registry s
+            (steps ++ takes (taking_by in_end s.options steps (form_of_context context.now) s.clauses ecb) ∷ []) self.new }
+        ensures exit { (account : Account) (registry : Registry) (s : SetUp) (steps : List TracingStep)
+            → IsEnabledBy s enabled.now → AreAfter account registry s steps self.old
+            → result ≡ exit_of (taking_by in_end s.options steps (form_of_context context.now) s.clauses ecb) }
+    {
         let cpu = context.firing.cpu as usize;
         let clause = &enabled.clauses[ecb.clause];
-        let records = enabled.records[ecb.clause];
+        let outline = enabled.outlines[ecb.clause];
         let scene = scene_at(context, ecb.epid);
         let dropped = self.locals.drops();
         let taken = self.left.take_known(
             ecb.epid,
             clause,
-            records,
+            outline.leaves_record,
             &scene,
             &mut self.locals,
             &mut self.specs,
@@ -275,6 +324,31 @@ impl Processors {
                 self.all[cpu].errors += 1;
                 None
             }
+        }
+    }
+
+    /// Takes a clause that does nothing but record: its record goes into the processor's buffer.
+    #[inline(always)]
+    fn record_one(&mut self, epid: u32, clause: &Clause, scene: &Scene, cpu: usize, in_end: bool)
+        requires there { cpu < vec_len self.old.all }
+        requires bare { only_records (form_of_clause clause.now).statements ≡ true }
+        requires counts { All (AtMost (DROPS_LIMIT - 1)) self.old.all.items }
+        ensures len { vec_len self.new.all ≡ vec_len self.old.all }
+        ensures stores { self.new.stores ≡ self.old.stores }
+        ensures locals { self.new.locals ≡ self.old.locals }
+        ensures specs { self.new.specs ≡ self.old.specs }
+        ensures counts { (n : ℕ) → All (AtMost n) self.old.all.items → All (AtMost (n + 1)) self.new.all.items }
+        ensures recorded { (past : TracingPast) (tallies : ℕ → Tally) → LocalsAreAt past.locals self.old.locals
+            → EndLast (tallies cpu).came in_end → AreTallied tallies self.old.all.items → AreTallied
+            (changed_at tallies cpu (with_outcome in_end (taking epid (scene_of scene.now) past (form_of_clause clause.now)).outcome
+            (tallies cpu))) self.new.all.items }
+    {
+        match record_only(&mut self.record, epid, clause, scene, &self.locals) {
+            Ok(true) => {
+                let _put = self.all[cpu].buffer.put(&self.record, in_end);
+            }
+            Ok(false) => {}
+            Err(EvalFault::DivZero) => self.all[cpu].errors += 1,
         }
     }
 

@@ -3,13 +3,13 @@ ghost use Rattle.std.specs.Prelude.{◌≡◌, ◌≢◌, ◌↔◌, ℕ, ◌+�
 ghost use Rattle.dt_machine.specs.Interest.{has_probe};
 ghost use Rattle.dt_ecb.specs.Forms.{shapes_of};
 ghost use Rattle.dt_consumer.specs.Placing.{IsPlaced};
-ghost use Rattle.dt_consumer.specs.Recording.{leave_records};
+ghost use Rattle.dt_consumer.specs.Recording.{outlines_of};
 ghost use Rattle.dt_ecb.specs.declared.limits.TheConstants.{ECBS_MAX};
 
+use crate::outline::Outline;
 use dt_ecb::{ECBS_MAX, Ecb, Shapes};
 use dt_lang::Clause;
 use dt_machine::Interest;
-use dt_record::leaves_record;
 use std::alloc::{AllocError, Global};
 
 /// The clauses of the accepted programs, their ECBs, with the room for as many as one consumer may have, and the
@@ -17,15 +17,15 @@ use std::alloc::{AllocError, Global};
 #[derive(Drop)]
 pub(crate) struct Programs {
     pub(crate) clauses: Vec<Clause>,
-    /// Of each clause whether it leaves a record: it is asked once, as the clause is accepted, and not at each firing.
-    records: Vec<bool>,
+    /// Of each clause what is known before it is taken.
+    outlines: Vec<Outline>,
     pub(crate) ecbs: Vec<Ecb>,
     pub(crate) shapes: Shapes,
     ghost room_for_clauses: { ECBS_MAX ≤ vec_capacity clauses },
-    ghost room_for_records: { ECBS_MAX ≤ vec_capacity records },
+    ghost room_for_outlines: { ECBS_MAX ≤ vec_capacity outlines },
     ghost room_for_ecbs: { ECBS_MAX ≤ vec_capacity ecbs },
-    ghost recorded: { records.items ≡ leave_records clauses.items },
-    ghost each: { vec_len records ≡ vec_len clauses },
+    ghost known: { outlines.items ≡ outlines_of clauses.items },
+    ghost each: { vec_len outlines ≡ vec_len clauses },
     ghost few_clauses: { vec_len clauses ≤ vec_len ecbs },
     ghost few_ecbs: { vec_len ecbs ≤ ECBS_MAX },
     ghost placed: { All (IsPlaced (vec_len clauses)) ecbs.items },
@@ -40,7 +40,7 @@ impl Programs {
     {
         Ok(Programs {
             clauses: Vec::with_capacity(alloc, ECBS_MAX)?,
-            records: Vec::with_capacity(alloc, ECBS_MAX)?,
+            outlines: Vec::with_capacity(alloc, ECBS_MAX)?,
             ecbs: Vec::with_capacity(alloc, ECBS_MAX)?,
             shapes: Shapes::new(alloc),
         })
@@ -54,11 +54,11 @@ impl Programs {
         &self.clauses
     }
 
-    /// Of each clause, whether it leaves a record.
-    pub(crate) fn records(&self) -> &[bool]
-        ensures { result.now ≡ leave_records self.now.clauses.items }
+    /// Of each clause, what is known before it is taken.
+    pub(crate) fn outlines(&self) -> &[Outline]
+        ensures { result.now ≡ outlines_of self.now.clauses.items }
     {
-        &self.records
+        &self.outlines
     }
 
     /// Their ECBs, in order of EPID.
@@ -91,21 +91,21 @@ impl Programs {
         ensures ecbs { self.new.ecbs.items ≡ self.old.ecbs.items ++ ecbs.items }
         ensures shapes { self.new.shapes ≡ shapes }
     {
-        add_records(&mut self.records, &clauses);
+        add_outlines(&mut self.outlines, &clauses);
         self.clauses.append(&mut clauses).unwrap();
         self.ecbs.append(&mut ecbs).unwrap();
         self.shapes = shapes;
     }
 }
 
-/// Adds of each of these clauses whether it leaves a record. There is room for them, so it takes no memory.
-fn add_records(records: &mut Vec<bool>, clauses: &[Clause])
-    requires { vec_len records.old + length clauses.now ≤ vec_capacity records.old }
-    ensures items { records.new.items ≡ records.old.items ++ leave_records clauses.now }
-    ensures len { vec_len records.new ≡ vec_len records.old + length clauses.now }
-    ensures capacity { vec_capacity records.new ≡ vec_capacity records.old }
+/// Adds of each of these clauses what is known before it is taken. There is room for them, so it takes no memory.
+fn add_outlines(outlines: &mut Vec<Outline>, clauses: &[Clause])
+    requires { vec_len outlines.old + length clauses.now ≤ vec_capacity outlines.old }
+    ensures items { outlines.new.items ≡ outlines.old.items ++ outlines_of clauses.now }
+    ensures len { vec_len outlines.new ≡ vec_len outlines.old + length clauses.now }
+    ensures capacity { vec_capacity outlines.new ≡ vec_capacity outlines.old }
 {
     for clause in clauses {
-        records.push_reserved(leaves_record(clause));
+        outlines.push_reserved(Outline::of(clause));
     }
 }

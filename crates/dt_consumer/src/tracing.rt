@@ -2,7 +2,7 @@
 ghost use Rattle.std.specs.Prelude.{◌≡◌, ◌≤◌, ◌<◌, ◌+◌, ◌*◌, All, None, Some, vec_len};
 ghost use Rattle.dt_consumer.specs.Counts.{AtMost, COMES_MAX, FailsAtMost, GIVES_MAX, own_firings, must_be_left};
 ghost use Rattle.dt_consumer.specs.Placing.{ArePlaced};
-ghost use Rattle.dt_consumer.specs.Recording.{leave_records};
+ghost use Rattle.dt_consumer.specs.Recording.{outlines_of};
 ghost use Rattle.dt_life.specs.Uses.{GivenAtMost};
 ghost use Rattle.dt_life.specs.declared.limits.TheConstants.{END, HISTORY_MAX};
 
@@ -125,7 +125,7 @@ impl Tracing {
         };
         let enabled = Enabled {
             clauses: programs.clauses(),
-            records: programs.records(),
+            outlines: programs.outlines(),
             uses: &uses,
         };
         let exit = processors.take(&enabled, &lists[BEGIN as usize], &context);
@@ -200,7 +200,7 @@ impl Tracing {
     {
         let enabled = Enabled {
             clauses: programs.clauses(),
-            records: programs.records(),
+            outlines: programs.outlines(),
             uses: &self.uses,
         };
         let list = &self.lists[context.firing.probe as usize];

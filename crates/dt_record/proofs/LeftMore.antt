@@ -56,7 +56,7 @@ same_left left effect bytes spec values ends exit =
 
 -- ---- one effect more
 
-flat_more : {A : Type 0} (f : Effect → List A) (effects : List Effect) (effect : Effect)
+pub flat_more : {A : Type 0} (f : Effect → List A) (effects : List Effect) (effect : Effect)
     → flat_map f effects ++ f effect ≡ flat_map f (effects ++ effect ∷ [])
 flat_more f effects effect =
     sym (flat_map-append f effects (effect ∷ []) ∙ ap (λ l. flat_map f effects ++ l) (append-nil (f effect)))

@@ -1,10 +1,10 @@
 -- What a loop over a list has of what each of it gives.
-use Rattle.std.proofs.Common.{◌≡◌, ℕ, ◌+◌, ◌<◌, Bool, ◌||◌, List, [], ◌∷◌, ◌++◌, Option, Some, None, Result, Ok, Err}
+use Rattle.std.proofs.Common.{◌≡◌, ℕ, zero, suc, true, ◌+◌, ◌<◌, Bool, ◌&&◌, ◌||◌, List, [], ◌∷◌, ◌++◌, Option, Some, None, Result, Ok, Err}
 use Rattle.std.proofs.Math.Bool.{false≢true}
 use Rattle.std.proofs.Common.{IsErr, MatchResult, OnErr, take, drop, map, length, refl, sym, ap, ◌∙◌, arith}
 use Rattle.std.proofs.lemmas.List.{take_more, take-append-drop, map-append, drop_more}
 use Rattle.std.proofs.lemmas.List.{length-map, length-take-le}
-use Rattle.std.specs.List.{list_any}
+use Rattle.std.specs.List.{list_all, list_any}
 use Rattle.std.proofs.Math.ListN.{get_or}
 use Rattle.dt_expr.specs.Scene.{SceneForm}
 use Rattle.dt_program.specs.Clause.{form_of_statement}
@@ -12,6 +12,7 @@ use Rattle.dt_program.specs.declared.clause.Statement.{Statement}
 use Rattle.dt_record.specs.Pasts.{TracingPast}
 use Rattle.dt_record.specs.Taking.{Effect, each, effect, past_with, perform}
 use Rattle.dt_record.specs.laws.Performing.{ArePerformed, performed_more, performed_stop}
+use Rattle.dt_record.specs.laws.BareRecords.{first_of, second_of}
 use Rattle.dt_record.proofs.Each.{each-more, each-none}
 
 pub on_err : {T E P : Type 0} (r : Result T E) → P → OnErr r P
@@ -85,3 +86,17 @@ pub list_any-map : {A B : Type 0} (test : B → Bool) (form : A → B) (xs : Lis
     → list_any test (map form xs) ≡ list_any (λ x. test (form x)) xs
 list_any-map test form [] = refl
 list_any-map test form (x ∷ xs) = ap (λ more. test (form x) || more) (list_any-map test form xs)
+
+-- a test that all pass is passed by each
+pub list_all-at : {A B : Type 0} (test : B → Bool) (form : A → B) (xs : List A) (i : ℕ) (x : A) → i < length xs
+    → x ≡ get_or xs i x → list_all test (map form xs) ≡ true → test (form x) ≡ true
+list_all-at test form [] i x inside is h = absurd (omega (arith, inside))
+list_all-at test form (y ∷ ys) zero x inside is h =
+    ap (λ z. test (form z)) is ∙ first_of (test (form y)) (list_all test (map form ys)) h
+list_all-at test form (y ∷ ys) (suc i) x inside is h =
+    list_all-at test form ys i x (omega (arith, inside)) is (second_of (test (form y)) (list_all test (map form ys)) h)
+
+pub list_all-map : {A B : Type 0} (test : B → Bool) (form : A → B) (xs : List A)
+    → list_all test (map form xs) ≡ list_all (λ x. test (form x)) xs
+list_all-map test form [] = refl
+list_all-map test form (x ∷ xs) = ap (λ more. test (form x) && more) (list_all-map test form xs)

@@ -1,7 +1,7 @@
 -- What becomes of a clause where it is taken. Guide, Program Structure (predicates and actions).
 use Rattle.std.specs.Prelude.{ℕ, ℤ, pos, negsuc, Bool, true, false, List, [], ◌∷◌, ◌++◌, Option, Some, None, take, if◌then◌else◌, ◌==◌, ◌||◌, nat_lt, length}
 use Rattle.std.specs.Int.{w64, cast_unsigned}
-use Rattle.std.specs.List.{flat_map, list_any}
+use Rattle.std.specs.List.{flat_map, list_all, list_any}
 use Rattle.std.specs.Option.{option_map, option_map_or, option_and_then, option_or}
 use Rattle.byteorder.specs.Endian.{big_bytes}
 use Rattle.dt_expr.specs.Form.{Form}
@@ -159,6 +159,10 @@ asks_for_record statement = is_recording statement || is_speculating statement
 abbrev pub leaves_record : List StatementForm → Bool
 leaves_record statements = length statements == 0 || list_any asks_for_record statements
 
+-- statements that do nothing but record: each puts something into the record
+abbrev pub only_records : List StatementForm → Bool
+only_records statements = list_all is_recording statements
+
 -- What a clause that was taken leaves: its record, and the identifier to whose speculation it is directed, where it is; what its
 -- aggregating statements give, in order; the speculations that it ends, in order; and the status of its first exit.
 pub record TakenForm : Type 0 where
@@ -176,6 +180,10 @@ taken_of epid statements effects = record {
   ends = flat_map ended_by effects;
   exit = first_some effect_exit effects;
 }
+
+-- a record and nothing else
+abbrev pub bare_record : List ℕ → TakenForm
+bare_record bytes = record { record_bytes = Some bytes; spec = None; values = []; ends = []; exit = None }
 
 -- a past, and then what effects assign and draw
 abbrev pub past_with : TracingPast → List Effect → TracingPast

@@ -1,5 +1,6 @@
 -- What holds of the definitions, for those who prove that a program meets them. Lowest first.
 pub mod Performing
+pub mod BareRecords
 pub mod Numbers
 pub mod Bounds
 pub mod Fitting

@@ -23,7 +23,7 @@ use dt_locals::Locals;
 use dt_program::{Argument, Frames};
 
 /// The bytes of a record.
-type Bytes = ArrayVec<u8, RECORD_MAX>;
+pub(crate) type Bytes = ArrayVec<u8, RECORD_MAX>;
 
 /// How many bytes a number takes in a record.
 const NUMBER_SIZE: usize = 8;
@@ -64,7 +64,7 @@ fn begin_with(record: &mut Option<Bytes>, epid: &[u8; EPID_SIZE])
 
 /// Shortens the record before to an EPID. What a vector drops it blanks: of one word that takes no call, so the few numbers that most
 /// records hold go one by one.
-fn shorten(record: &mut Bytes)
+pub(crate) fn shorten(record: &mut Bytes)
     requires { EPID_SIZE ≤ array_vec_len record.old }
     ensures { array_vec_len record.new ≡ EPID_SIZE }
 {
@@ -113,7 +113,7 @@ pub(crate) fn put_stack(record: &mut Option<Bytes>, stack: &[u64; FRAMES], frame
     }
 }
 
-fn put_frames(record: &mut Bytes, stack: &[u64; FRAMES], frames: Frames)
+pub(crate) fn put_frames(record: &mut Bytes, stack: &[u64; FRAMES], frames: Frames)
     requires { array_vec_len record.old + 8 * FRAMES ≤ RECORD_MAX }
     ensures written { record.new.items ≡ record.old.items ++ frames_bytes frames.count stack.now }
     ensures grows { array_vec_len record.new ≡ array_vec_len record.old + 8 * frames.count }
@@ -125,22 +125,44 @@ fn put_frames(record: &mut Bytes, stack: &[u64; FRAMES], frames: Frames)
     }
 }
 
+/// Adds a number, where there is a record.
 fn put_number(record: &mut Option<Bytes>, number: i64)
     requires { record_len record.old + 8 ≤ RECORD_MAX }
     ensures written { bytes_of record.new ≡ option_map (λ bytes. bytes ++ number_bytes number) (bytes_of record.old) }
     ensures grows { record_len record.new ≤ record_len record.old + 8 }
 {
-    let mut bytes = [0; 8];
-    BigEndian::write_i64(&mut bytes, number);
-    put(record, &bytes);
+    if let Some(record) = record {
+        add_number(record, number);
+    }
 }
 
+/// Adds bytes, where there is a record.
 fn put(record: &mut Option<Bytes>, bytes: &[u8])
     requires { record_len record.old + length bytes.now ≤ RECORD_MAX }
     ensures written { bytes_of record.new ≡ option_map (λ done. done ++ bytes.now) (bytes_of record.old) }
     ensures grows { record_len record.new ≤ record_len record.old + length bytes.now }
 {
     if let Some(record) = record {
-        record.try_extend_from_slice(bytes).unwrap();
+        add_bytes(record, bytes);
     }
+}
+
+/// Adds a number in eight bytes, the highest first.
+pub(crate) fn add_number(record: &mut Bytes, number: i64)
+    requires { array_vec_len record.old + 8 ≤ RECORD_MAX }
+    ensures written { record.new.items ≡ record.old.items ++ number_bytes number }
+    ensures grows { array_vec_len record.new ≡ array_vec_len record.old + 8 }
+{
+    let mut bytes = [0; 8];
+    BigEndian::write_i64(&mut bytes, number);
+    add_bytes(record, &bytes);
+}
+
+/// Adds bytes, for which there is room.
+pub(crate) fn add_bytes(record: &mut Bytes, bytes: &[u8])
+    requires { array_vec_len record.old + length bytes.now ≤ RECORD_MAX }
+    ensures written { record.new.items ≡ record.old.items ++ bytes.now }
+    ensures grows { array_vec_len record.new ≡ array_vec_len record.old + length bytes.now }
+{
+    record.try_extend_from_slice(bytes).unwrap();
 }

@@ -11,6 +11,7 @@
 //! How much a clause leaves at most is said by `left_is_limited`.
 #![tactic(auto)]
 
+mod bare_record;
 mod building;
 mod effects;
 mod laws;
@@ -24,6 +25,7 @@ mod splitting;
 mod taking;
 mod values;
 
+pub use bare_record::record_only;
 pub use laws::{
     assignments_fit, left_is_limited, left_is_split, one_performance, one_split, records_fit,
     records_have_lengths,
@@ -33,6 +35,6 @@ pub use limit_laws::limits_agree;
 pub use limits::{EPID_SIZE, RECORD_MAX, VALUES_MAX};
 pub use parts::{SpecEnd, Taken};
 pub use recorded::{Record, Recorded};
-pub use recording::leaves_record;
+pub use recording::{leaves_record, only_records};
 pub use splitting::split;
 pub use taking::taken;

@@ -1,6 +1,6 @@
 //! Which clauses leave a record.
 ghost use Rattle.std.specs.Prelude.{◌≡◌, map};
-ghost use Rattle.std.specs.List.{list_any};
+ghost use Rattle.std.specs.List.{list_all, list_any};
 ghost use Rattle.dt_program.specs.Clause.{form_of_clause, form_of_statement};
 ghost use Rattle.dt_record.specs.Taking as spec;
 
@@ -38,4 +38,29 @@ pub fn leaves_record(clause: &Clause) -> bool
     ensures { result ≡ spec.leaves_record (form_of_clause clause.now).statements }
 {
     leave_record(&clause.statements)
+}
+
+/// Whether a statement puts something into the record.
+fn records(statement: &Statement) -> bool
+    ensures { result ≡ spec.is_recording (form_of_statement statement.now) }
+{
+    matches!(
+        statement,
+        Statement::Trace(_) | Statement::Stack(_) | Statement::Ustack(_)
+    )
+}
+
+/// Whether each of the statements does so.
+fn all_record(statements: &[Statement]) -> bool
+    ensures { result ≡ list_all (λ statement. spec.is_recording (form_of_statement statement)) statements.now }
+{
+    statements.iter().all(|statement| records(statement))
+}
+
+/// Whether all that a clause does where it is taken is to record: each of its statements records something, or there is none. Such a
+/// clause can be taken by [`record_only`](crate::record_only).
+pub fn only_records(clause: &Clause) -> bool
+    ensures { result ≡ spec.only_records (form_of_clause clause.now).statements }
+{
+    all_record(&clause.statements)
 }

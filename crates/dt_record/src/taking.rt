@@ -182,7 +182,8 @@ impl Taken {
 }
 
 /// Whether a predicate isn't 0. Where there is none, it holds.
-fn predicate_holds(
+#[inline(always)]
+pub(crate) fn predicate_holds(
     predicate: &Option<Expr>,
     scene: &Scene,
     locals: &Locals,

@@ -23,6 +23,8 @@ use Rattle.dt_ecb.proofs.parts.Ecb.TheSendSync as ecbs
 use Rattle.dt_ecb.proofs.shapes.Shapes.TheSendSync as shapes
 use Rattle.dt_life.proofs.options.Options.TheSendSync as options
 use Rattle.dt_consumer.proofs.tracing.Tracing.TheSendSync as tracing
+use Rattle.dt_consumer.proofs.outline.Outline.TheSendSync as outlines
+use Rattle.dt_consumer.specs.contracts.outline.Outline as outline
 use Rattle.dt_consumer.specs.contracts.programs.Programs as programs
 use Rattle.dt_consumer.specs.contracts.consumer.Consumer as consumer
 
@@ -76,7 +78,7 @@ clause_send = recorded_send (clause.the_field).row _ _ clause.the_type.to_one cl
 
 programs_field : IsSend (programs.the_field).row
 programs_field = struct_send (shape programs.the_type)
-    (std.Vec-send clause.the_row clause_send, (search (std.crosses, sendable), (std.Vec-send ecb.the_row ecbs.the_send, (shapes.the_field_send, tt))))
+    (std.Vec-send clause.the_row clause_send, (std.Vec-send outline.the_row outlines.the_send, (std.Vec-send ecb.the_row ecbs.the_send, (shapes.the_field_send, tt))))
 
 -- a consumer, as a part of another type
 pub consumer_field : IsSend (consumer.the_field).row
