@@ -17,6 +17,6 @@ pub mod Idle
 pub mod Telling
 pub mod StoresTold
 pub mod Quiet
-pub mod BareRecords
+pub mod BareTakings
 pub mod Closing
 pub mod Drafting

@@ -3,7 +3,7 @@ ghost use Rattle.std.specs.Prelude.{◌≡◌};
 ghost use Rattle.dt_consumer.specs.Recording.{outline_of};
 
 use dt_lang::Clause;
-use dt_record::{leaves_record, only_records};
+use dt_record::{leaves_record, only_gives, only_records};
 
 /// What is known of a clause before it is taken: it is asked once, as the clause is accepted, and not at each firing.
 #[derive(Clone, Copy)]
@@ -12,6 +12,8 @@ pub(crate) struct Outline {
     pub(crate) leaves_record: bool,
     /// Whether all that it does is to record.
     pub(crate) only_records: bool,
+    /// Whether all that it does is to give to aggregations.
+    pub(crate) only_gives: bool,
 }
 
 impl Outline {
@@ -22,6 +24,7 @@ impl Outline {
         Outline {
             leaves_record: leaves_record(clause),
             only_records: only_records(clause),
+            only_gives: only_gives(clause),
         }
     }
 }

@@ -10,7 +10,7 @@ use crate::processor::Processor;
 use crate::programs::Programs;
 use crate::uses::Uses;
 use arrayvec::ArrayVec;
-use dt_aggstore::{AggStore, Aggregation};
+use dt_aggstore::{AggStore, Aggregation, Key};
 use dt_cred::Account;
 use dt_ecb::Ecb;
 use dt_expr::{EvalFault, Scene};
@@ -18,20 +18,23 @@ use dt_lang::Clause;
 use dt_life::{Context, END, Options, empty_stores, own_firing, own_process, scene_at};
 use dt_locals::Locals;
 use dt_machine::Machine;
-use dt_record::{RECORD_MAX, Taken, record_only};
+use dt_record::{RECORD_MAX, Taken, give_only, record_only};
 use dt_speculation::{SpecPut, Specs, drops_told};
 use std::alloc::{AllocError, Global};
 
 /// What a consumer has of its processors from its `go` on, each with its store of aggregations; its thread-local variables and its
-/// speculations, which are those of all processors; and the places in which what a clause leaves is made: a bare record has its own.
+/// speculations, which are those of all processors; and the places in which what a clause leaves is made: a bare record has its own, and
+/// the key of what an aggregation is given.
 ///
-/// What each firing needs lies together, at the end: the large place before it, for what seldom clauses leave, is then not between.
+/// What a firing that only records needs lies together, at the end: the large place before it, for what other clauses leave, is then not
+/// between.
 #[derive(Drop)]
 pub(crate) struct Processors {
     pub(crate) stores: Vec<AggStore>,
     pub(crate) locals: Locals,
     pub(crate) specs: Specs,
     left: Taken,
+    key: Key,
     pub(crate) all: Vec<Processor>,
     record: ArrayVec<u8, RECORD_MAX>,
     ghost some: { 1 ≤ vec_len all },
@@ -41,7 +44,7 @@ pub(crate) struct Processors {
 }
 
 impl Processors {
-    ghost use Rattle.std.specs.Prelude.{◌≡◌, ◌+◌, ◌-◌, ◌<◌, ◌==◌, ℕ, true, false, List, [], ◌∷◌, ◌++◌, All, IfOk, IfSome, IsSomeAnd, length, map, slice_get, vec_len, if◌then◌else◌};
+    ghost use Rattle.std.specs.Prelude.{◌≡◌, ◌+◌, ◌-◌, ◌<◌, ◌==◌, ℕ, Bool, true, false, List, [], ◌∷◌, ◌++◌, All, IfOk, IfSome, IsSomeAnd, length, map, slice_get, vec_len, if◌then◌else◌};
     ghost use Rattle.dt_aggstore.specs.Chosen.{drops};
     ghost use Rattle.dt_aggstore.specs.History as stores;
     ghost use Rattle.dt_aggstore.specs.declared.limits.TheConstants.{ADDED_LIMIT};
@@ -52,7 +55,7 @@ impl Processors {
     ghost use Rattle.dt_consumer.specs.Counts.{AtMost, COMES_BY_ONE, COMES_MAX, FailsAtMost, GIVES_MAX};
     ghost use Rattle.dt_consumer.specs.Enabling.{IsEnabledBy};
     ghost use Rattle.dt_consumer.specs.Keeps.{AreAfter};
-    ghost use Rattle.dt_consumer.specs.Uses.{AreUses};
+    ghost use Rattle.dt_consumer.specs.Uses.{AreUses, form_of_uses, given_of, with_given};
     ghost use Rattle.dt_lang.specs.Program.{form_of_clause};
     ghost use Rattle.dt_consumer.specs.Tallies.{AreTallied, Tally, changed_at, new_tally, with_left, with_outcome, with_records};
     ghost use Rattle.dt_life.specs.Takings.{puts_in};
@@ -72,7 +75,7 @@ impl Processors {
     ghost use Rattle.dt_locals.specs.LocalsAreAt.{LocalsAreAt};
     ghost use Rattle.dt_record.specs.Forms.{form_of_taken};
     ghost use Rattle.dt_record.specs.Pasts.{TracingPast};
-    ghost use Rattle.dt_record.specs.Taking.{only_records, taking};
+    ghost use Rattle.dt_record.specs.Taking.{only_gives, only_records, taking};
     ghost use Rattle.dt_speculation.specs.History.{SpecPast, specs_then};
     ghost use Rattle.dt_speculation.specs.IsAt.{SpecsAt, fails_of};
 
@@ -101,6 +104,9 @@ impl Processors {
             locals: Locals::new(alloc, options.dynvarsize)?,
             specs: Specs::new(alloc, options.nspec, options.specsize, cpus as usize)?,
             left: Taken::new(),
+            key: Key {
+                parts: ArrayVec::new(),
+            },
             record: ArrayVec::new(),
         })
     }
@@ -230,8 +236,8 @@ impl Processors {
         self.take_end(&enabled, list, &context);
     }
 
-    /// Takes one ECB, and answers the status that it exits with, if it exits. A clause that does nothing but record is taken here, and needs
-    /// nothing of what others do.
+    /// Takes one ECB, and answers the status that it exits with, if it exits. A clause that does nothing but record, and one that does
+    /// nothing but give to aggregations, is taken here, and needs none of the questions that others do.
     #[inline(always)]
     fn take_one(
         &mut self,
@@ -259,13 +265,17 @@ impl Processors {
             → result ≡ exit_of (taking_by in_end s.options steps (form_of_context context.now) s.clauses ecb) }
     {
         let outline = enabled.outlines[ecb.clause];
-        if !outline.only_records {
+        if !outline.only_records && !outline.only_gives {
             return self.take_whole(enabled, ecb, context, in_end);
         }
         let clause = &enabled.clauses[ecb.clause];
         let scene = scene_at(context, ecb.epid);
         let cpu = context.firing.cpu as usize;
-        self.record_one(ecb.epid, clause, &scene, cpu, in_end);
+        if outline.only_records {
+            self.record_one(ecb.epid, clause, &scene, cpu, in_end);
+        } else {
+            self.give_one(clause, &enabled.uses[ecb.clause], &scene, cpu);
+        }
         None
     }
 
@@ -315,7 +325,11 @@ impl Processors {
         match taken {
             Ok(true) => {
                 self.put_record(cpu, in_end);
-                enabled.uses[ecb.clause].give(&mut self.stores[cpu], &self.left.values);
+                enabled.uses[ecb.clause].give(
+                    &mut self.stores[cpu],
+                    &mut self.key,
+                    &self.left.values,
+                );
                 end_speculations(&mut self.specs, &mut self.all, &self.left.ends, in_end);
                 self.left.exit
             }
@@ -349,6 +363,38 @@ impl Processors {
             }
             Ok(false) => {}
             Err(EvalFault::DivZero) => self.all[cpu].errors += 1,
+        }
+    }
+
+    /// Takes a clause that does nothing but give to aggregations: its values go into the processor's store.
+    #[inline(always)]
+    fn give_one(&mut self, clause: &Clause, uses: &Uses, scene: &Scene, cpu: usize)
+        requires there { cpu < vec_len self.old.all }
+        requires bare { only_gives (form_of_clause clause.now).statements ≡ true }
+        requires counts { All (AtMost (DROPS_LIMIT - 1)) self.old.all.items }
+        requires gives { All (GivenAtMost (ADDED_LIMIT - STATEMENTS_MAX)) self.old.stores.items }
+        ensures len { vec_len self.new.all ≡ vec_len self.old.all }
+        ensures locals { self.new.locals ≡ self.old.locals }
+        ensures specs { self.new.specs ≡ self.old.specs }
+        ensures counts { (n : ℕ) → All (AtMost n) self.old.all.items → All (AtMost (n + 1)) self.new.all.items }
+        ensures gives { (n : ℕ) → All (GivenAtMost n) self.old.stores.items → All (GivenAtMost (n + STATEMENTS_MAX)) self.new.stores.items }
+        // whatever the clause's EPID is
+        ensures given { (epid : ℕ) (past : TracingPast) (pasts : ℕ → stores.Past) → LocalsAreAt past.locals self.old.locals
+            → AreGiven pasts self.old.stores.items
+            → AreGiven (with_given pasts cpu (given_of (form_of_uses uses.now)
+            (taking epid (scene_of scene.now) past (form_of_clause clause.now)).outcome)) self.new.stores.items }
+        ensures counted { (epid : ℕ) (in_end : Bool) (past : TracingPast) (tallies : ℕ → Tally)
+            → LocalsAreAt past.locals self.old.locals → AreTallied tallies self.old.all.items → AreTallied
+            (changed_at tallies cpu (with_outcome in_end (taking epid (scene_of scene.now) past (form_of_clause clause.now)).outcome
+            (tallies cpu))) self.new.all.items }
+    {
+        match give_only(&mut self.left.values, clause, scene, &self.locals) {
+            Ok(true) => uses.give(&mut self.stores[cpu], &mut self.key, &self.left.values),
+            Ok(false) => {}
+            Err(EvalFault::DivZero) => {
+                let processor = &mut self.all[cpu];
+                processor.errors += 1;
+            }
         }
     }
 

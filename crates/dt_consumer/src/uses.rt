@@ -6,7 +6,7 @@ use dt_aggstore::{AggStore, Aggregation, Key};
 use dt_ecb::Shapes;
 use dt_expr::Value;
 use dt_lang::{Clause, KEYS_MAX, STATEMENTS_MAX, Statement};
-use dt_life::{NamedAggregation, number_in, parts_at};
+use dt_life::{NamedAggregation, number_in, put_parts};
 use std::alloc::{AllocError, Global};
 
 /// A use of an aggregation by a statement: which one, and with how many keys.
@@ -70,9 +70,10 @@ impl Uses {
         Ok(Uses { all })
     }
 
-    /// Gives the values that the clause left to the store of their processor. It takes no memory.
+    /// Gives the values that the clause left to the store of their processor. The room for a key serves again, use after use. It takes
+    /// no memory.
     #[inline(always)]
-    pub(crate) fn give(&self, store: &mut AggStore, values: &[Value])
+    pub(crate) fn give(&self, store: &mut AggStore, key: &mut Key, values: &[Value])
         requires { added_of store.old + STATEMENTS_MAX ≤ ADDED_LIMIT }
         ensures stands { (past : Past) → IsAt past store.old
             → IsAt (given_then past (split_by (form_of_uses self.now) values.now)) store.new }
@@ -80,7 +81,7 @@ impl Uses {
     {
         let mut place = 0;
         for one in &self.all {
-            one.give(store, values, place);
+            one.give(store, key, values, place);
             place += one.keys + 1;
         }
     }
@@ -97,7 +98,7 @@ impl Use {
 
     /// Gives what lies from a place on among the values: the keys, and then the number.
     #[inline(always)]
-    fn give(&self, store: &mut AggStore, values: &[Value], place: usize)
+    fn give(&self, store: &mut AggStore, key: &mut Key, values: &[Value], place: usize)
         requires room { added_of store.old < ADDED_LIMIT }
         requires near { place ≤ STATEMENTS_MAX * (KEYS_MAX + 1) }
         ensures stands { (past : Past) → IsAt past store.old
@@ -109,9 +110,7 @@ impl Use {
         let Some(aggregation) = self.aggregation else {
             return;
         };
-        let key = Key {
-            parts: parts_at(values, place, self.keys),
-        };
-        let _kept = store.add(aggregation, &key, number_in(values, place + self.keys));
+        put_parts(&mut key.parts, values, place, self.keys);
+        let _kept = store.add(aggregation, key, number_in(values, place + self.keys));
     }
 }

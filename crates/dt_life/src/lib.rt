@@ -47,5 +47,5 @@ pub use reserve::end_reserve;
 pub use scene::scene_at;
 pub use stores::empty_stores;
 pub use told::{reply_to_describe, reply_to_list};
-pub use values::{number_in, parts_at};
+pub use values::{number_in, parts_at, put_parts};
 pub use visibility::shown;

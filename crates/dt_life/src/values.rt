@@ -14,10 +14,24 @@ pub fn parts_at(values: &[Value], place: usize, count: usize) -> ArrayVec<KeyPar
     ensures { result.items ≡ key_at count (drop place values.now) }
 {
     let mut parts = ArrayVec::new();
+    put_parts(&mut parts, values, place, count);
+    parts
+}
+
+/// The same, in place of what these parts were.
+pub fn put_parts(
+    parts: &mut ArrayVec<KeyPart, KEYS_MAX>,
+    values: &[Value],
+    place: usize,
+    count: usize,
+)
+    requires { count ≤ KEYS_MAX }
+    ensures { parts.new.items ≡ key_at count (drop place values.now) }
+{
+    parts.clear();
     for value in cut(values, place, count) {
         parts.push(part_of(*value));
     }
-    parts
 }
 
 /// So many values from a place on, or as many as there are.

@@ -12,7 +12,7 @@ use Rattle.dt_program.specs.declared.clause.Statement.{Statement}
 use Rattle.dt_record.specs.Pasts.{TracingPast}
 use Rattle.dt_record.specs.Taking.{Effect, each, effect, past_with, perform}
 use Rattle.dt_record.specs.laws.Performing.{ArePerformed, performed_more, performed_stop}
-use Rattle.dt_record.specs.laws.BareRecords.{first_of, second_of}
+use Rattle.dt_record.specs.laws.BareTakings.{first_of, second_of}
 use Rattle.dt_record.proofs.Each.{each-more, each-none}
 
 pub on_err : {T E P : Type 0} (r : Result T E) → P → OnErr r P

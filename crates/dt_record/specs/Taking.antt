@@ -1,5 +1,5 @@
 -- What becomes of a clause where it is taken. Guide, Program Structure (predicates and actions).
-use Rattle.std.specs.Prelude.{ℕ, ℤ, pos, negsuc, Bool, true, false, List, [], ◌∷◌, ◌++◌, Option, Some, None, take, if◌then◌else◌, ◌==◌, ◌||◌, nat_lt, length}
+use Rattle.std.specs.Prelude.{ℕ, ℤ, pos, negsuc, Bool, true, false, List, [], ◌∷◌, ◌++◌, Option, Some, None, take, if◌then◌else◌, ◌==◌, ◌&&◌, ◌||◌, not, nat_lt, length}
 use Rattle.std.specs.Int.{w64, cast_unsigned}
 use Rattle.std.specs.List.{flat_map, list_all, list_any}
 use Rattle.std.specs.Option.{option_map, option_map_or, option_and_then, option_or}
@@ -163,6 +163,15 @@ leaves_record statements = length statements == 0 || list_any asks_for_record st
 abbrev pub only_records : List StatementForm → Bool
 only_records statements = list_all is_recording statements
 
+-- a statement that gives to an aggregation
+abbrev pub is_giving : StatementForm → Bool
+is_giving (program.aggregate name keys call) = true
+is_giving _ = false
+
+-- statements that do nothing but give to aggregations: there is one, and each gives
+abbrev pub only_gives : List StatementForm → Bool
+only_gives statements = not (length statements == 0) && list_all is_giving statements
+
 -- What a clause that was taken leaves: its record, and the identifier to whose speculation it is directed, where it is; what its
 -- aggregating statements give, in order; the speculations that it ends, in order; and the status of its first exit.
 pub record TakenForm : Type 0 where
@@ -184,6 +193,10 @@ taken_of epid statements effects = record {
 -- a record and nothing else
 abbrev pub bare_record : List ℕ → TakenForm
 bare_record bytes = record { record_bytes = Some bytes; spec = None; values = []; ends = []; exit = None }
+
+-- values for aggregations and nothing else
+abbrev pub bare_values : List Value → TakenForm
+bare_values values = record { record_bytes = None; spec = None; values = values; ends = []; exit = None }
 
 -- a past, and then what effects assign and draw
 abbrev pub past_with : TracingPast → List Effect → TracingPast

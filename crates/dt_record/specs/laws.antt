@@ -1,6 +1,8 @@
 -- What holds of the definitions, for those who prove that a program meets them. Lowest first.
 pub mod Performing
+pub mod BareTakings
 pub mod BareRecords
+pub mod BareValues
 pub mod Numbers
 pub mod Bounds
 pub mod Fitting

@@ -12,6 +12,7 @@
 #![tactic(auto)]
 
 mod bare_record;
+mod bare_values;
 mod building;
 mod effects;
 mod laws;
@@ -26,6 +27,7 @@ mod taking;
 mod values;
 
 pub use bare_record::record_only;
+pub use bare_values::give_only;
 pub use laws::{
     assignments_fit, left_is_limited, left_is_split, one_performance, one_split, records_fit,
     records_have_lengths,
@@ -35,6 +37,6 @@ pub use limit_laws::limits_agree;
 pub use limits::{EPID_SIZE, RECORD_MAX, VALUES_MAX};
 pub use parts::{SpecEnd, Taken};
 pub use recorded::{Record, Recorded};
-pub use recording::{leaves_record, only_records};
+pub use recording::{leaves_record, only_gives, only_records};
 pub use splitting::split;
 pub use taking::taken;

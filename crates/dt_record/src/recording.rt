@@ -64,3 +64,32 @@ pub fn only_records(clause: &Clause) -> bool
 {
     all_record(&clause.statements)
 }
+
+/// Whether a statement gives to an aggregation.
+fn gives(statement: &Statement) -> bool
+    ensures { result ≡ spec.is_giving (form_of_statement statement.now) }
+{
+    matches!(statement, Statement::Aggregate(_))
+}
+
+/// Whether each of the statements does so.
+fn all_give(statements: &[Statement]) -> bool
+    ensures { result ≡ list_all (λ statement. spec.is_giving (form_of_statement statement)) statements.now }
+{
+    statements.iter().all(|statement| gives(statement))
+}
+
+/// Whether there are statements, and each does so.
+fn only_give(statements: &[Statement]) -> bool
+    ensures { result ≡ spec.only_gives (map form_of_statement statements.now) }
+{
+    !statements.is_empty() && all_give(statements)
+}
+
+/// Whether all that a clause does where it is taken is to give to aggregations: it has statements, and each of them does so. Such a
+/// clause leaves no record, and can be taken by [`give_only`](crate::give_only).
+pub fn only_gives(clause: &Clause) -> bool
+    ensures { result ≡ spec.only_gives (form_of_clause clause.now).statements }
+{
+    only_give(&clause.statements)
+}

@@ -9,6 +9,7 @@ use Rattle.dt_life.specs.Life.{shapes_in, since_then}
 use Rattle.dt_life.specs.Options.{OptionsForm}
 use Rattle.dt_consumer.specs.Counts.{COMES_MAX, GIVES_MAX}
 use Rattle.dt_consumer.specs.Placing.{IsPlaced}
+use Rattle.dt_consumer.specs.Recording.{outlines_of}
 use Rattle.dt_consumer.specs.Uses.{AreUses}
 use Rattle.dt_consumer.proofs.Giving.{uses_long}
 use Rattle.dt_life.specs.Takings.{began}
@@ -19,6 +20,15 @@ use Rattle.dt_consumer.proofs.Tallying.{at_most_more}
 use Rattle.dt_life.specs.laws.Contexts.{own_is}
 use Rattle.dt_consumer.proofs.Tracings.{ListOf, fired_at, list_at, lists_kept, lists_placed, placed_at, since_moved, two_there}
 use Rattle.dt_consumer.proofs.tracing.Tracing.begun.Goals as goal
+
+pub invariant_of-enabled : goal.invariant_of-enabled
+invariant_of-enabled c = record {
+  known = c.outlines.ensures ∙ ap outlines_of (sym c.clauses-2.ensures.value);
+  each =
+      ap length c.deref.ensures.value
+      ∙ uses_long _ c.clauses.result.now c.in_ok-uses.uses.items c.in_ok-uses.ensures
+      ∙ ap length (c.clauses.ensures.value ∙ sym c.clauses-2.ensures.value);
+}
 
 pub invariant_of-tracing : goal.invariant_of-tracing
 invariant_of-tracing c = record {

@@ -8,5 +8,5 @@ pub returns-clause-stands : goal.returns-clause-stands
 returns-clause-stands c = λ past h.
     let same : to_z w64 (of_z w64 c.number_in.result) ≡ c.number_in.result = omega (arith, ints) in
     gave_one past c.in-Some.aggregation c.args.self.now.aggregation c.args.self.now.keys c.args.place
-    c.args.values.now c.parts_at.result.items _ c.add-kept.new.self c.in-Some.is c.parts_at.ensures
+    c.args.values.now c.put_parts.new.parts.items _ c.add-kept.new.self c.in-Some.is c.put_parts.ensures
     (same ∙ c.number_in.ensures) (c.add-kept.ensures.stands past h)
