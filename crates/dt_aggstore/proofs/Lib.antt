@@ -15,6 +15,7 @@ pub mod Joins
 pub mod Sharing
 pub mod Rows
 pub mod Anew
+pub mod Places
 pub mod Gathering
 pub mod Tables
 pub mod SomeTables

@@ -43,13 +43,13 @@ part_level (Text a) (Number b) c e = cc
 part_level (Text a) (Text b) (Number c) e = refl
 part_level (Text a) (Text b) (Text c) e = nat_list_cmp_total.congr a b c e
 
-parts_total : IsTotalOrder part_cmp
+pub parts_total : IsTotalOrder part_cmp
 parts_total = record { antisymm = part_back; trans = part_chain; congr = part_level }
 
 pub keys_total : IsTotalOrder key_cmp
 keys_total = lists_total parts_total
 
-part_exact : (a b : KeyPart) → part_cmp a b ≡ Equal → a ≡ b
+pub part_exact : (a b : KeyPart) → part_cmp a b ≡ Equal → a ≡ b
 part_exact (Number a) (Number b) e = ap Number (exact_signed a b e)
 part_exact (Number a) (Text b) e = cc
 part_exact (Text a) (Number b) e = cc

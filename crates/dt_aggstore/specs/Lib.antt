@@ -17,3 +17,4 @@ pub mod Lent
 -- Private to the crate: no public contract names them.
 pub mod KeyStarts
 pub mod Joining
+pub mod Sorting

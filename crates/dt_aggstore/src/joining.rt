@@ -68,11 +68,12 @@ impl<'a> Joined<'a> {
     }
 }
 
-/// The rows of shares that are in order of key. `Err`: there was no memory for them.
+/// The rows of shares that are in order of key, and have about so many keys. `Err`: there was no memory for them.
 pub(crate) fn rows_of<'a>(
     alloc: Global,
     function: AggFn,
     shares: &'a [KeyShare<'a>],
+    keys: usize,
 ) -> Result<Vec<Row>, AllocError>
     requires words { All (λ (share : KeyShare). length (cell_shared share) ≡ cell_words function) shares.now }
     requires sorted { IsSortedByKey shared_key key_cmp shares.now }
@@ -81,7 +82,6 @@ pub(crate) fn rows_of<'a>(
         → ((key : List KeyPart) → length (bags key) < BAG_LIMIT)
         → IfOk result (λ rows. AreRowsOf function bags rows.items) }
 {
-    let keys = shares.chunk_by(|one, other| one.has_key_of(other)).count();
     let rows = Vec::with_capacity(alloc, keys)?;
     match shares {
         [] => Ok(rows),

@@ -4,7 +4,6 @@ ghost use Rattle.std.specs.Prelude.{◌≡◌, ◌≤◌, ◌*◌};
 use crate::limits::KEYS_MAX;
 use arrayvec::ArrayVec;
 use dt_aggfn::AggFn;
-use std::cmp::Ordering;
 use std::hash::{Hash, Hasher};
 
 /// An aggregation: its number in the consumer and its function. Two that differ in either are two.
@@ -85,7 +84,9 @@ impl Aggregation {
 }
 
 impl Key {
-    ghost use Rattle.dt_aggstore.specs.Keys.{same_key, key_cmp, key_words};
+    ghost use Rattle.std.specs.Prelude.{[], ◌∷◌};
+    ghost use Rattle.dt_aggstore.specs.Keys.{same_key, key_words};
+    ghost use Rattle.dt_aggstore.specs.declared.key.KeyPart.TheVariants.{Number};
 
     /// Whether both have the same parts.
     pub(crate) fn is(&self, other: &Key) -> bool
@@ -94,13 +95,13 @@ impl Key {
         self.parts.as_slice() == other.parts.as_slice()
     }
 
-    /// How this key and another are ordered: the first position that differs decides, and a key that ends there
-    /// comes first.
-    #[inline(never)]
-    pub(crate) fn order(&self, other: &Key) -> Ordering
-        ensures { result ≡ key_cmp self.now.parts.items other.now.parts.items }
+    /// The key that is this number.
+    pub(crate) fn of_number(number: i64) -> Key
+        ensures { result.parts.items ≡ Number number ∷ [] }
     {
-        self.parts.as_slice().cmp(other.parts.as_slice())
+        let mut parts = ArrayVec::new();
+        parts.push(KeyPart::Number(number));
+        Key { parts }
     }
 
     /// The same key.

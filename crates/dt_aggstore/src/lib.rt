@@ -14,13 +14,13 @@ mod entry_index;
 mod entry_name;
 mod joining;
 mod key;
-mod key_start;
 mod laws;
 mod limit_laws;
 mod limits;
 mod part_start;
 mod recent_texts;
 mod share;
+mod sorting;
 mod store;
 mod table;
 

@@ -17,8 +17,8 @@ use crate::cells::cell_at;
 use crate::joining::rows_of;
 use crate::key::{Aggregation, Key};
 use crate::limits::STORES_MAX;
-use crate::recent_texts::RecentTexts;
 use crate::share::KeyShare;
+use crate::sorting::sort_shares;
 use crate::store::AggStore;
 use dt_aggfn::{CellAnswer, any_order, cell_length};
 use std::alloc::{AllocError, Global};
@@ -45,22 +45,20 @@ impl AggStore {
         ensures value { (pasts : List Past) → AllZip IsAt pasts stores.now
             → IfOk result (λ rows. map form_of_row rows.items ≡ table_of pasts aggregation) }
     {
-        let mut shares = Vec::new(alloc);
-        let mut texts = RecentTexts::new();
+        let mut shares = Vec::with_capacity(alloc, entries_in(stores))?;
         for store in stores {
-            store.share_into(aggregation, &mut texts, &mut shares)?;
+            store.share_into(aggregation, &mut shares)?;
         }
         // where several stores have a key, the order in which their bags are joined doesn't matter
         any_order();
-        KeyShare::sort(&mut shares);
-        rows_of(alloc, aggregation.function, &shares)
+        let keys = sort_shares(&mut shares);
+        rows_of(alloc, aggregation.function, &shares, keys)
     }
 
     /// Puts what this store has of an aggregation's keys at the end of shares. `Err`: there was no memory for it.
     fn share_into<'a>(
         &'a self,
         aggregation: Aggregation,
-        texts: &mut RecentTexts<'a>,
         shares: &mut Vec<KeyShare<'a>>,
     ) -> Result<(), AllocError>
         ensures words { All (λ (share : KeyShare). length (cell_shared share) ≡ cell_words aggregation.function)
@@ -78,10 +76,20 @@ impl AggStore {
             let words = name.aggregation.function.cell_words();
             if aggregation.is(name.aggregation) {
                 let cell = cell_at(&self.cells, place, words);
-                shares.push(KeyShare::of(&name.key, cell, texts))?;
+                shares.push(KeyShare::of(&name.key, cell))?;
             }
             place += words;
         }
         Ok(())
     }
+}
+
+/// How many entries stores have, of all aggregations: for so many shares room is made at once, of which nothing is written
+/// where there is no share.
+fn entries_in(stores: &[AggStore]) -> usize {
+    let mut entries: usize = 0;
+    for store in stores {
+        entries = entries.saturating_add(store.entries.names().len());
+    }
+    entries
 }
