@@ -1,4 +1,4 @@
-/* Numbers that a program shares with the script that looks on, for refuse.c and devices.c. */
+/* Numbers that a program shares with the script that looks on, for refuse.c, devices.c and kept.c. */
 #include <fcntl.h>
 #include <stdatomic.h>
 #include <stddef.h>
