@@ -28,6 +28,8 @@ pub(crate) struct EntryIndex {
     /// Where in the order the entry stands that was found or put last, for each aggregation by its number: mostly it is
     /// the next one of that aggregation too, and no name is hashed. Where it is another one, the name is looked up.
     recent: [usize; RECENT_MAX],
+    /// The name that was looked up last: the next is written in its place, so that none is moved.
+    asked: EntryName,
 }
 
 impl Model for EntryIndex {
@@ -53,11 +55,12 @@ impl EntryIndex {
             other: IndexMap::with_capacity(alloc, room)?,
             room,
             recent: [0; RECENT_MAX],
+            asked: EntryName::unwritten(),
         })
     }
 
-    /// The place of the cell of the entry of an aggregation and a key. `Err`: it isn't among them, and this is its name,
-    /// so that to put it no other is made.
+    /// The place of the cell of the entry of an aggregation and a key. `Err`: it isn't among them, and this is its name, by
+    /// which to put it.
     pub(crate) fn place_of(
         &mut self,
         aggregation: Aggregation,
@@ -70,17 +73,17 @@ impl EntryIndex {
         ensures none { OnErr result (Contains (entries_named self.old.items) (entry_of aggregation key.now.parts.items) → ⊥) }
     {
         let number = aggregation.number % RECENT_MAX;
-        // mostly the entry that was found last is meant again, and then no name is made and hashed
+        // mostly the entry that was found last is meant again, and then no name is written and hashed
         if let Some(place) = recent_place(&self.index, self.recent[number], aggregation, key) {
             return Ok(place);
         }
-        let name = EntryName::of(aggregation, key);
-        match self.index.get_index_of(&name) {
+        self.asked.write(aggregation, key);
+        match self.index.get_index_of(&self.asked) {
             Some(recent) => {
                 self.recent[number] = recent;
                 Ok(self.index[recent])
             }
-            None => Err(name),
+            None => Err(self.asked.copy()),
         }
     }
 

@@ -8,7 +8,7 @@ ghost use Rattle.dt_aggstore.specs.declared.limits.TheConstants.{AGGSIZE_MAX, CO
 use crate::key::{Aggregation, Key};
 use crate::limits::{AGGSIZE_MAX, COST_MIN};
 use arrayvec::ArrayVec;
-use dt_aggfn::cell_length;
+use dt_aggfn::{AggFn, cell_length};
 
 /// An entry of a store, by which its cell is found.
 #[derive(PartialEq, Eq, Hash, Drop)]
@@ -18,6 +18,30 @@ pub struct EntryName {
 }
 
 impl EntryName {
+    /// A name in whose place another is written before it is asked for.
+    pub(crate) fn unwritten() -> EntryName {
+        EntryName {
+            aggregation: Aggregation {
+                number: 0,
+                function: AggFn::Count,
+            },
+            key: Key {
+                parts: ArrayVec::new(),
+            },
+        }
+    }
+
+    /// Writes the name of the entry of an aggregation and a key in the place of this one, which copies the parts alone.
+    pub(crate) fn write(&mut self, aggregation: Aggregation, key: &Key)
+        ensures { entry_named self.new ≡ entry_of aggregation key.now.parts.items }
+    {
+        self.aggregation = aggregation;
+        self.key.parts.clear();
+        for part in key.parts.as_slice() {
+            self.key.parts.push(*part);
+        }
+    }
+
     /// The entry of an aggregation and a key.
     pub(crate) fn of(aggregation: Aggregation, key: &Key) -> EntryName
         ensures { entry_named result ≡ entry_of aggregation key.now.parts.items }

@@ -43,7 +43,7 @@ returns-in-None-clause-none c =
     let es = c.self.inside.index.entries in
     let entry = entry_of c.args.aggregation c.args.key.now.parts.items in
     let seen = as_seen es self (ap (λ (v : Indexed). zip v.items v.places) c.self.view_is) c.requires in
-    let by_key = ap (λ eq. lookup (eq c.of-name.result) es) tests_alike ∙ ap (λ e. lookup (is_named e) es) c.of-name.ensures in
+    let by_key = ap (λ eq. lookup (eq c.write.new.self) es) tests_alike ∙ ap (λ e. lookup (is_named e) es) c.write.ensures in
     let Lacks : Type 0 = Contains (entries_named self.items) entry → ⊥ in
     not_some Lacks (lookup (is_named entry) es)
     (sym (ap is_some by_key) ∙ sym c.get_index_of.ensures.found ∙ ap is_some c.in-None.is)
@@ -55,7 +55,7 @@ returns-in-Some-get_index_of-clause-found c =
     let es = c.self.inside.index.entries in
     let entry = entry_of c.args.aggregation c.args.key.now.parts.items in
     let seen = as_seen es self (ap (λ (v : Indexed). zip v.items v.places) c.self.view_is) c.requires in
-    let by_key = ap (λ eq. lookup (eq c.of-name.result) es) tests_alike ∙ ap (λ e. lookup (is_named e) es) c.of-name.ensures in
+    let by_key = ap (λ eq. lookup (eq c.write.new.self) es) tests_alike ∙ ap (λ e. lookup (is_named e) es) c.write.ensures in
     subst (λ found. IfSome found (LiesAt (entries_named self.items) entry))
     (sym by_key ∙ sym c.in-Some-get_index_of.ensures.value ∙ c.index.ensures)
     (lies entry es self.items seen)
