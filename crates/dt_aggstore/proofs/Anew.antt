@@ -1,6 +1,6 @@
 -- Shares in another order are of bags whose values come in another order.
 use Rattle.std.proofs.Common.{◌≡◌, ℕ, zero, suc, ◌<◌, Bool, true, false, cond, ℤ, List, [], ◌∷◌, ◌++◌, length, get_or, set, refl, sym, ap, ◌∙◌, subst, arith, append_assoc}
-use Rattle.std.specs.Prelude.{filter, map, IsPermutation, FitsSigned}
+use Rattle.std.specs.Prelude.{filter, IsPermutation, FitsSigned}
 use Rattle.std.specs.Int.{w64}
 use Rattle.std.specs.List.{AllZip, flat_map, swap}
 use Rattle.std.proofs.lemmas.List.Elements.{All-from_recursion, recursion_from_All}
@@ -9,85 +9,34 @@ use Rattle.std.proofs.lemmas.List.Sorted.{All-permutation, IsPermutation-append_
 use Rattle.std.proofs.lemmas.List.Sorted.{IsPermutation-refl, IsPermutation-sym, IsPermutation-trans, length_permutation}
 use Rattle.dt_aggfn.specs.declared.function.AggFn.{AggFn}
 use Rattle.dt_aggfn.specs.Cells.{cell_of, IsBag}
-use Rattle.dt_aggstore.specs.Keys.{same_key}
-use Rattle.dt_aggstore.specs.Sorting.{share_told}
-use Rattle.dt_aggstore.specs.declared.key.KeyPart.{KeyPart}
 use Rattle.dt_aggstore.specs.Joining.{cell_shared, cell_joined, key_of, AreJoined, AreShares, AreSharesInSomeOrder, MakeBag}
 use Rattle.dt_aggstore.specs.declared.joining.Joined.{Joined}
 use Rattle.dt_aggstore.specs.declared.share.KeyShare.{KeyShare}
 use Rattle.dt_aggstore.proofs.Rising.{Key, all_weaker}
 use Rattle.dt_aggstore.proofs.Sharing.{has_key}
 
--- what stays of a share
-abbrev Told : Type 0
-Told = List KeyPart × List ℕ
-
-abbrev cell_told : Told → List ℕ
-cell_told told = told.1
-
--- the same of what stays of shares as `MakeBag` of those
-record MakeTold (function : AggFn) (shares : List Told) (bag : List ℤ) : Type 0 where
-  pub parts : List (List ℤ)
-  pub cells : AllZip (λ share part. IsBag part × (cell_told share ≡ cell_of function part)) shares parts
-  pub joined : bag ≡ flat_map (λ part. part) parts
-
-abbrev has_told : Key → Told → Bool
-has_told key told = same_key told.0 key
-
-filter_told : (key : Key) (xs : List KeyShare) → filter (has_told key) (map share_told xs) ≡ map share_told (filter (has_key key) xs)
-filter_told key [] = refl
-filter_told key (x ∷ xs) = by (has_key key x) (filter_told key xs)
-  where
-    by : (b : Bool) → filter (has_told key) (map share_told xs) ≡ map share_told (filter (has_key key) xs) → cond b (share_told x ∷ filter (has_told key) (map share_told xs)) (filter (has_told key) (map share_told xs))
-        ≡ map share_told (cond b (x ∷ filter (has_key key) xs) (filter (has_key key) xs))
-    by true rest = ap (λ l. share_told x ∷ l) rest
-    by false rest = rest
-
-module _ (function : AggFn) where
-  zip_told : (xs : List KeyShare) (parts : List (List ℤ))
-      → AllZip (λ share part. IsBag part × (cell_shared share ≡ cell_of function part)) xs parts
-      → AllZip (λ share part. IsBag part × (cell_told share ≡ cell_of function part)) (map share_told xs) parts
-  zip_told [] [] zip = tt
-  zip_told [] (part ∷ parts) zip = absurd zip
-  zip_told (x ∷ xs) [] zip = absurd zip
-  zip_told (x ∷ xs) (part ∷ parts) zip = (zip.0, zip_told xs parts zip.1)
-
-  zip_back : (xs : List KeyShare) (parts : List (List ℤ))
-      → AllZip (λ share part. IsBag part × (cell_told share ≡ cell_of function part)) (map share_told xs) parts
-      → AllZip (λ share part. IsBag part × (cell_shared share ≡ cell_of function part)) xs parts
-  zip_back [] [] zip = tt
-  zip_back [] (part ∷ parts) zip = absurd zip
-  zip_back (x ∷ xs) [] zip = absurd zip
-  zip_back (x ∷ xs) (part ∷ parts) zip = (zip.0, zip_back xs parts zip.1)
-
-  made_told : (xs : List KeyShare) (bag : List ℤ) → MakeBag function xs bag → MakeTold function (map share_told xs) bag
-  made_told xs bag m = record { parts = m.parts; cells = zip_told xs m.parts m.cells; joined = m.joined }
-
-  made_back : (xs : List KeyShare) (bag : List ℤ) → MakeTold function (map share_told xs) bag → MakeBag function xs bag
-  made_back xs bag m = record { parts = m.parts; cells = zip_back xs m.parts m.cells; joined = m.joined }
-
 -- some shares pass a test, and make a bag
-module _ (function : AggFn) (p : Told → Bool) where
+module _ (function : AggFn) (p : KeyShare → Bool) where
   -- What those of some shares make, those of others make in another order.
-  abbrev Turns : (xs ys : List Told) → Type 0
-  Turns xs ys = (bag : List ℤ) → MakeTold function (filter p xs) bag
-      → (other : List ℤ) × IsPermutation bag other × MakeTold function (filter p ys) other
+  abbrev Turns : (xs ys : List KeyShare) → Type 0
+  Turns xs ys = (bag : List ℤ) → MakeBag function (filter p xs) bag
+      → (other : List ℤ) × IsPermutation bag other × MakeBag function (filter p ys) other
 
-  stays : (xs : List Told) → Turns xs xs
+  stays : (xs : List KeyShare) → Turns xs xs
   stays xs bag m = (bag, IsPermutation-refl bag, m)
 
-  goes_on : (xs ys zs : List Told) → Turns xs ys → Turns ys zs → Turns xs zs
+  goes_on : (xs ys zs : List KeyShare) → Turns xs ys → Turns ys zs → Turns xs zs
   goes_on xs ys zs f g bag m =
       let once = f bag m in
       let twice = g once.0 once.2 in (twice.0, IsPermutation-trans _ _ _ once.1 twice.1, twice.2)
 
   -- with one more in front
-  with_first : (x : Told) (xs ys : List Told) → Turns xs ys → Turns (x ∷ xs) (x ∷ ys)
+  with_first : (x : KeyShare) (xs ys : List KeyShare) → Turns xs ys → Turns (x ∷ xs) (x ∷ ys)
   with_first x xs ys f bag m = by (p x) m
     where
-      with_part : (parts : List (List ℤ)) → AllZip (λ share part. IsBag part × (cell_told share ≡ cell_of function part)) (x ∷ filter p xs) parts
+      with_part : (parts : List (List ℤ)) → AllZip (λ share part. IsBag part × (cell_shared share ≡ cell_of function part)) (x ∷ filter p xs) parts
           → bag ≡ flat_map (λ part. part) parts
-          → (other : List ℤ) × IsPermutation bag other × MakeTold function (x ∷ filter p ys) other
+          → (other : List ℤ) × IsPermutation bag other × MakeBag function (x ∷ filter p ys) other
       with_part [] cells joined = absurd cells
       with_part (part ∷ parts) cells joined =
           let later = f (flat_map (λ part. part) parts) (record { parts = parts; cells = cells.1; joined = refl }) in (
@@ -100,16 +49,16 @@ module _ (function : AggFn) (p : Told → Bool) where
             },
           )
 
-      by : (b : Bool) → MakeTold function (cond b (x ∷ filter p xs) (filter p xs)) bag
-          → (other : List ℤ) × IsPermutation bag other × MakeTold function (cond b (x ∷ filter p ys) (filter p ys)) other
+      by : (b : Bool) → MakeBag function (cond b (x ∷ filter p xs) (filter p xs)) bag
+          → (other : List ℤ) × IsPermutation bag other × MakeBag function (cond b (x ∷ filter p ys) (filter p ys)) other
       by true m = with_part m.parts m.cells m.joined
       by false m = f bag m
 
   -- of two that pass each brings its values in front of the other's
-  both_turned : (x y : Told) (xs : List Told) (bag : List ℤ) (parts : List (List ℤ))
-      → AllZip (λ share part. IsBag part × (cell_told share ≡ cell_of function part)) (x ∷ y ∷ xs) parts
+  both_turned : (x y : KeyShare) (xs : List KeyShare) (bag : List ℤ) (parts : List (List ℤ))
+      → AllZip (λ share part. IsBag part × (cell_shared share ≡ cell_of function part)) (x ∷ y ∷ xs) parts
       → bag ≡ flat_map (λ part. part) parts
-      → (other : List ℤ) × IsPermutation bag other × MakeTold function (y ∷ x ∷ xs) other
+      → (other : List ℤ) × IsPermutation bag other × MakeBag function (y ∷ x ∷ xs) other
   both_turned x y xs bag [] cells joined = absurd cells
   both_turned x y xs bag (one ∷ []) cells joined = absurd cells.1
   both_turned x y xs bag (one ∷ two ∷ parts) cells joined =
@@ -124,19 +73,19 @@ module _ (function : AggFn) (p : Told → Bool) where
         },
       )
 
-  first_two : (x y : Told) (xs : List Told) → Turns (x ∷ y ∷ xs) (y ∷ x ∷ xs)
+  first_two : (x y : KeyShare) (xs : List KeyShare) → Turns (x ∷ y ∷ xs) (y ∷ x ∷ xs)
   first_two x y xs bag m = by (p x) (p y) m
     where
-      by : (b c : Bool) → MakeTold function (cond b (x ∷ cond c (y ∷ filter p xs) (filter p xs)) (cond c (y ∷ filter p xs) (filter p xs))) bag
+      by : (b c : Bool) → MakeBag function (cond b (x ∷ cond c (y ∷ filter p xs) (filter p xs)) (cond c (y ∷ filter p xs) (filter p xs))) bag
           → (other : List ℤ) × IsPermutation bag other
-          × MakeTold function (cond c (y ∷ cond b (x ∷ filter p xs) (filter p xs)) (cond b (x ∷ filter p xs) (filter p xs))) other
+          × MakeBag function (cond c (y ∷ cond b (x ∷ filter p xs) (filter p xs)) (cond b (x ∷ filter p xs) (filter p xs))) other
       by true true m = both_turned x y (filter p xs) bag m.parts m.cells m.joined
       by true false m = (bag, IsPermutation-refl bag, m)
       by false true m = (bag, IsPermutation-refl bag, m)
       by false false m = (bag, IsPermutation-refl bag, m)
 
   -- the first and a later one
-  first_and : (d x : Told) (xs : List Told) (j : ℕ) → j < length xs → Turns (x ∷ xs) (get_or xs j d ∷ set xs j x)
+  first_and : (d x : KeyShare) (xs : List KeyShare) (j : ℕ) → j < length xs → Turns (x ∷ xs) (get_or xs j d ∷ set xs j x)
   first_and d x [] j small = absurd (omega (arith, small))
   first_and d x (y ∷ xs) zero small = first_two x y xs
   first_and d x (y ∷ xs) (suc j) small =
@@ -146,7 +95,7 @@ module _ (function : AggFn) (p : Told → Bool) where
       (goes_on (x ∷ y ∷ xs) (y ∷ x ∷ xs) (y ∷ there) (first_two x y xs) (with_first y (x ∷ xs) there later)) (first_two y (get_or xs j d) (set xs j x))
 
   -- any two
-  any_two : (d : Told) (xs : List Told) (i j : ℕ) → i < length xs → j < length xs
+  any_two : (d : KeyShare) (xs : List KeyShare) (i j : ℕ) → i < length xs → j < length xs
       → Turns xs (set (set xs i (get_or xs j d)) j (get_or xs i d))
   any_two d [] i j a b = absurd (omega (arith, a))
   any_two d (x ∷ xs) zero zero a b = stays (x ∷ xs)
@@ -155,30 +104,21 @@ module _ (function : AggFn) (p : Told → Bool) where
   any_two d (x ∷ xs) (suc i) (suc j) a b =
       with_first x xs (set (set xs i (get_or xs j d)) j (get_or xs i d)) (any_two d xs i j (omega (arith, a)) (omega (arith, b)))
 
-  exchanged : (xs : List Told) (i j : ℕ) → i < length xs → j < length xs → Turns xs (swap xs i j)
+  exchanged : (xs : List KeyShare) (i j : ℕ) → i < length xs → j < length xs → Turns xs (swap xs i j)
   exchanged [] i j a b = absurd (omega (arith, a))
   exchanged (x ∷ xs) i j a b = subst (Turns (x ∷ xs)) (swap_is (x ∷ xs) i j x a b) (any_two x (x ∷ xs) i j a b)
 
   -- in any order
-  turned : (xs ys : List Told) → IsPermutation xs ys → Turns xs ys
+  turned : (xs ys : List KeyShare) → IsPermutation xs ys → Turns xs ys
   turned xs ys moved = IsPermutation-keeps xs (Turns xs) (stays xs) (λ l i j a b so_far. goes_on xs l (swap l i j) so_far (exchanged l i j a b)) ys moved
 
-module _ (function : AggFn) (bags : Key → List ℤ) (xs ys : List KeyShare)
-    (moved : IsPermutation (map share_told xs) (map share_told ys)) (are : AreShares function bags xs) where
-  anew : (key : Key) → (other : List ℤ) × IsPermutation (bags key) other
-      × MakeTold function (filter (has_told key) (map share_told ys)) other
-  anew key =
-      turned function (has_told key) (map share_told xs) (map share_told ys) moved (bags key)
-      (subst (λ l. MakeTold function l (bags key)) (sym (filter_told key xs))
-      (made_told function (filter (has_key key) xs) (bags key) (are key)))
-
-  pub shares_anew : AreSharesInSomeOrder function bags ys
-  shares_anew = record {
-    others = λ key. (anew key).0;
-    same = λ key. (anew key).1;
-    are = λ key. made_back function (filter (has_key key) ys) (anew key).0
-        (subst (λ l. MakeTold function l (anew key).0) (filter_told key ys) (anew key).2);
-  }
+pub shares_anew : (function : AggFn) (bags : Key → List ℤ) (xs ys : List KeyShare) → IsPermutation xs ys
+    → AreShares function bags xs → AreSharesInSomeOrder function bags ys
+shares_anew function bags xs ys moved a = record {
+  others = λ key. (turned function (has_key key) xs ys moved (bags key) (a key)).0;
+  same = λ key. (turned function (has_key key) xs ys moved (bags key) (a key)).1;
+  are = λ key. (turned function (has_key key) xs ys moved (bags key) (a key)).2;
+}
 
 -- ---- what is joined doesn't depend on the order
 

@@ -10,12 +10,11 @@ pub mod Standing
 pub mod Steps
 pub mod Costs
 pub mod Rising
-pub mod KeyStarts
+pub mod Parts
 pub mod Joins
 pub mod Sharing
 pub mod Rows
 pub mod Anew
-pub mod Places
 pub mod Gathering
 pub mod Tables
 pub mod SomeTables

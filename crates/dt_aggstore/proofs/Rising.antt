@@ -43,19 +43,19 @@ part_level (Text a) (Number b) c e = cc
 part_level (Text a) (Text b) (Number c) e = refl
 part_level (Text a) (Text b) (Text c) e = nat_list_cmp_total.congr a b c e
 
-pub parts_total : IsTotalOrder part_cmp
+parts_total : IsTotalOrder part_cmp
 parts_total = record { antisymm = part_back; trans = part_chain; congr = part_level }
 
 pub keys_total : IsTotalOrder key_cmp
 keys_total = lists_total parts_total
 
-pub part_exact : (a b : KeyPart) → part_cmp a b ≡ Equal → a ≡ b
+part_exact : (a b : KeyPart) → part_cmp a b ≡ Equal → a ≡ b
 part_exact (Number a) (Number b) e = ap Number (exact_signed a b e)
 part_exact (Number a) (Text b) e = cc
 part_exact (Text a) (Number b) e = cc
 part_exact (Text a) (Text b) e = ap Text (exact_bytes a b e)
 
-pub both_equal : (o p : Ordering) → ordering_then o p ≡ Equal → (o ≡ Equal) × (p ≡ Equal)
+both_equal : (o p : Ordering) → ordering_then o p ≡ Equal → (o ≡ Equal) × (p ≡ Equal)
 both_equal Less p e = cc
 both_equal Equal p e = (refl, e)
 both_equal Greater p e = cc

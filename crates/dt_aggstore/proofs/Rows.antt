@@ -9,7 +9,7 @@ use Rattle.dt_aggstore.specs.EntryNames.{form_of_row}
 use Rattle.dt_aggstore.specs.Joining.{cell_joined, key_of, keys_of, shared_key, joined_at, AreJoined, AreShares, AreUnderWay, IsAnswerRow, MakesRows}
 use Rattle.dt_aggstore.specs.declared.joining.Joined.{Joined}
 use Rattle.dt_aggstore.specs.declared.share.KeyShare.{KeyShare}
-use Rattle.dt_aggstore.specs.declared.table.Row.{Row}
+use Rattle.dt_aggstore.specs.declared.row.Row.{Row}
 use denote.Ref.{Bor}
 use Rattle.dt_aggstore.proofs.Joins.{none_joined, joined_alike, pushed_at}
 use Rattle.dt_aggstore.proofs.Rising.{Key, all_weaker, contains_here, contains_later}

@@ -7,7 +7,11 @@ use Rattle.dt_aggstore.specs.Keys.{Entry, same_aggregation}
 use Rattle.dt_aggstore.specs.declared.key.Aggregation.{Aggregation}
 use Rattle.dt_aggstore.specs.Table.{RowForm}
 use Rattle.dt_aggstore.specs.declared.entry_name.EntryName.{EntryName}
-use Rattle.dt_aggstore.specs.declared.table.Row.{Row}
+use Rattle.dt_aggstore.specs.declared.key.KeyPart.{KeyPart}
+use Rattle.dt_aggstore.specs.declared.key.KeyPart.TheVariants.{Number}
+use Rattle.dt_aggstore.specs.declared.row.Row.{Row}
+use Rattle.dt_aggstore.specs.declared.row.RowKey.{RowKey}
+use Rattle.dt_aggstore.specs.declared.row.RowKey.TheVariants.{Numbers, Parts}
 
 abbrev pub entry_named : EntryName → Entry
 entry_named name = record { aggregation = name.aggregation; key = name.key.parts.items }
@@ -19,8 +23,13 @@ entries_named entries = map entry_named entries
 abbrev pub words_of : List Entry → ℕ
 words_of entries = sum_by (λ e. cell_words e.aggregation.function) entries
 
+-- the parts of a row's key
+abbrev pub key_of_row : RowKey → List KeyPart
+key_of_row (Numbers numbers) = map Number numbers.items
+key_of_row (Parts parts) = parts.items
+
 abbrev pub form_of_row : Row → RowForm
-form_of_row row = record { key = row.key.parts.items; value = form_of_answer row.value }
+form_of_row row = record { key = key_of_row row.key; value = form_of_answer row.value }
 
 -- An entry is among some, and as many words as those before it have lie before its cell.
 pub record LiesAt (entries : List Entry) (entry : Entry) (place : ℕ) : Type 0 where

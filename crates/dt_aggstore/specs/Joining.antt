@@ -9,23 +9,20 @@ use Rattle.dt_aggfn.specs.Cells.{cell_of, IsBag}
 use Rattle.dt_aggstore.specs.Keys.{same_key, IsBelow}
 use Rattle.dt_aggstore.specs.Table.{IsRising, RowForm}
 use Rattle.dt_aggstore.specs.EntryNames.{form_of_row}
+use Rattle.dt_aggstore.specs.Shares.{parts_told, words_held}
 use Rattle.dt_aggstore.specs.declared.key.KeyPart.{KeyPart}
 use Rattle.dt_aggstore.specs.declared.joining.Joined.{Joined}
-use Rattle.dt_aggstore.specs.declared.table.Row.{Row}
+use Rattle.dt_aggstore.specs.declared.row.Row.{Row}
 use Rattle.dt_aggstore.specs.declared.share.KeyShare.{KeyShare}
-use Rattle.dt_aggstore.specs.declared.share.ShareCell.{ShareCell}
-use Rattle.dt_aggstore.specs.declared.share.ShareCell.TheVariants.{Word, Words}
+
+abbrev pub shared_key : KeyShare → List KeyPart
+shared_key share = parts_told share.parts
 
 abbrev pub key_of : Joined → List KeyPart
-key_of row = row.share.now.key.now.parts.items
+key_of row = shared_key row.share.now
 
 abbrev pub keys_of : List Joined → List (List KeyPart)
 keys_of rows = map key_of rows
-
--- the words that a share holds, one by value or all by reference
-abbrev pub words_held : ShareCell → List ℕ
-words_held (Word words) = words
-words_held (Words words) = words.now
 
 abbrev pub cell_shared : KeyShare → List ℕ
 cell_shared share = words_held share.cell
@@ -53,9 +50,6 @@ joined_at key bag bags other = cond (same_key key other) (bags other ++ bag) (ba
 -- no key comes after this one
 abbrev pub NoneAfter : List KeyPart → List (List KeyPart) → Type 0
 NoneAfter key keys = AllByRecursion (λ other. IsBelow key other → ⊥) keys
-
-abbrev pub shared_key : KeyShare → List KeyPart
-shared_key share = share.key.now.parts.items
 
 -- Shares make a bag: each has the cell of a bag, and those bags, joined in order, are it.
 pub record MakeBag (function : AggFn) (shares : List KeyShare) (bag : List ℤ) : Type 0 where

@@ -15,6 +15,5 @@ pub mod Indexed
 pub mod IsAt
 pub mod Lent
 -- Private to the crate: no public contract names them.
-pub mod KeyStarts
+pub mod Shares
 pub mod Joining
-pub mod Sorting

@@ -1,15 +1,15 @@
 //! Rows while a table is made.
-ghost use Rattle.std.specs.Prelude.{◌≡◌, ◌<◌, ℤ, List, [], ◌∷◌, length, ◌++◌, IfOk, OnOk, All};
+ghost use Rattle.std.specs.Prelude.{◌≡◌, ◌<◌, ℤ, List, [], ◌∷◌, length, ◌++◌, IfOk, All};
 ghost use Rattle.std.specs.List.Sorted.{IsSortedByKey};
-ghost use Rattle.dt_aggstore.specs.Joining.{cell_joined, cell_shared, keys_of, joined_at, shared_key, AreJoined, AreShares, AreUnderWay, IsAnswerRow, AreRowsOf, NoneAfter};
+ghost use Rattle.dt_aggstore.specs.Joining.{cell_joined, cell_shared, keys_of, joined_at, shared_key, AreShares, AreUnderWay, IsAnswerRow, AreRowsOf, NoneAfter};
 ghost use Rattle.dt_aggstore.specs.Keys.{key_cmp};
 ghost use Rattle.dt_aggfn.specs.Cells.{cell_words, cell_of, IsBag};
 ghost use Rattle.dt_aggfn.specs.declared.limits.TheConstants.{BAG_LIMIT};
 ghost use Rattle.dt_aggstore.specs.declared.key.KeyPart.{KeyPart};
 ghost use Rattle.dt_aggstore.specs.declared.share.KeyShare.{KeyShare};
 
+use crate::row::Row;
 use crate::share::KeyShare;
-use crate::table::Row;
 use dt_aggfn::AggFn;
 use std::alloc::{AllocError, Global};
 
@@ -62,18 +62,17 @@ impl<'a> Joined<'a> {
         ensures { IfOk result (IsAnswerRow function self.now) }
     {
         Ok(Row {
-            key: self.share.key(),
+            key: self.share.key(alloc)?,
             value: function.answer(alloc, self.cell())?,
         })
     }
 }
 
-/// The rows of shares that are in order of key, and have about so many keys. `Err`: there was no memory for them.
+/// The rows of shares that are in order of key. `Err`: there was no memory for them.
 pub(crate) fn rows_of<'a>(
     alloc: Global,
     function: AggFn,
     shares: &'a [KeyShare<'a>],
-    keys: usize,
 ) -> Result<Vec<Row>, AllocError>
     requires words { All (λ (share : KeyShare). length (cell_shared share) ≡ cell_words function) shares.now }
     requires sorted { IsSortedByKey shared_key key_cmp shares.now }
@@ -82,7 +81,7 @@ pub(crate) fn rows_of<'a>(
         → ((key : List KeyPart) → length (bags key) < BAG_LIMIT)
         → IfOk result (λ rows. AreRowsOf function bags rows.items) }
 {
-    let rows = Vec::with_capacity(alloc, keys)?;
+    let rows = Vec::new(alloc);
     match shares {
         [] => Ok(rows),
         [first, later @ ..] => rows_from(alloc, function, rows, first, later),

@@ -84,35 +84,13 @@ impl Aggregation {
 }
 
 impl Key {
-    ghost use Rattle.std.specs.Prelude.{[], ◌∷◌};
     ghost use Rattle.dt_aggstore.specs.Keys.{same_key, key_words};
-    ghost use Rattle.dt_aggstore.specs.declared.key.KeyPart.TheVariants.{Number};
 
     /// Whether both have the same parts.
     pub(crate) fn is(&self, other: &Key) -> bool
         ensures { result ≡ same_key self.now.parts.items other.now.parts.items }
     {
         self.parts.as_slice() == other.parts.as_slice()
-    }
-
-    /// The key that is this number.
-    pub(crate) fn of_number(number: i64) -> Key
-        ensures { result.parts.items ≡ Number number ∷ [] }
-    {
-        let mut parts = ArrayVec::new();
-        parts.push(KeyPart::Number(number));
-        Key { parts }
-    }
-
-    /// The same key.
-    pub(crate) fn copy(&self) -> Key
-        ensures { result.parts.items ≡ self.now.parts.items }
-    {
-        let mut parts = ArrayVec::new();
-        for part in self.parts.as_slice() {
-            parts.push(*part);
-        }
-        Key { parts }
     }
 
     /// How many words its parts take: a number one, a text four.

@@ -17,5 +17,10 @@ pub(crate) const COST_MIN: usize = 16;
 /// For how many aggregations, by their numbers, a store remembers an entry each: as many as a consumer has at most.
 pub(crate) const RECENT_MAX: usize = 64;
 
-/// How many texts are remembered where keys are sorted.
-pub(crate) const RECENT_TEXTS_MAX: usize = 256;
+/// The fewest places for texts that are remembered while a table is made. There are as many as the stores have entries, between
+/// this and [`RECENT_TEXTS_MAX`].
+pub(crate) const RECENT_TEXTS_MIN: usize = 16;
+
+/// The most places for texts that are remembered while a table is made. The names of 4,096 probes and 1,024 processes mostly have
+/// places of their own then.
+pub(crate) const RECENT_TEXTS_MAX: usize = 65_536;

@@ -1,102 +1,51 @@
 //! What single stores have of an aggregation's keys, before it is joined.
-ghost use Rattle.std.specs.Prelude.{◌≡◌};
-ghost use Rattle.dt_aggstore.specs.KeyStarts.{key_told};
+ghost use Rattle.std.specs.Prelude.{◌≡◌, length};
+ghost use Rattle.dt_aggstore.specs.declared.limits.TheConstants.{KEYS_MAX};
 
-use crate::key::Key;
-use crate::part_start::PartStart;
+use crate::key::{Key, KeyPart};
+use crate::limits::KEYS_MAX;
+use crate::part_share::PartShare;
 use crate::recent_texts::RecentTexts;
+use crate::row::RowKey;
+use crate::share_cell::ShareCell;
+use arrayvec::ArrayVec;
+use std::alloc::{AllocError, Global};
+use std::cmp::Ordering;
 
-/// The cell that one store has of a key. One word is held by value: it is read where a store is gone over in order, and
-/// not where rows are made in order of key, of which the cells lie far apart.
-#[derive(Clone, Copy)]
-pub(crate) enum ShareCell<'a> {
-    Word([u64; 1]),
-    Words(&'a [u64]),
-}
-
-impl<'a> ShareCell<'a> {
-    ghost use Rattle.dt_aggstore.specs.Joining.{words_held};
-
-    fn of(cell: &'a [u64]) -> Self
-        ensures { words_held result ≡ cell.now }
-    {
-        match cell {
-            [word] => ShareCell::Word([*word]),
-            _ => ShareCell::Words(cell),
-        }
-    }
-
-    fn words(&self) -> &[u64]
-        ensures { result.now ≡ words_held self.now }
-    {
-        match self {
-            ShareCell::Word(word) => word,
-            ShareCell::Words(words) => words,
-        }
-    }
-}
-
-/// A key with the cell that one store has of it.
+/// A key with the cell that one store has of it. It holds the parts side by side, texts by reference, so that who sorts shares and
+/// makes rows of them needn't look at the keys, which lie far apart, but for their texts.
 #[derive(Clone, Copy)]
 pub(crate) struct KeyShare<'a> {
-    /// The part of the key by which shares are being sorted.
-    pub(crate) part: PartStart<'a>,
-    pub(crate) key: &'a Key,
+    parts: [PartShare<'a>; KEYS_MAX],
     cell: ShareCell<'a>,
-    ghost whole: { key_told part key.now.parts.items ≡ key.now.parts.items },
+    ghost places: { length parts ≡ KEYS_MAX },
 }
 
 impl<'a> KeyShare<'a> {
-    ghost use Rattle.std.specs.Prelude.{◌+◌, ◌<◌, ◌≤◌, ◌↔◌, ℕ, IsTrue, length};
-    ghost use Rattle.dt_aggstore.specs.KeyStarts.{goes_on, part_begun};
-    ghost use Rattle.dt_aggstore.specs.declared.limits.TheConstants.{KEYS_MAX};
-    ghost use Rattle.dt_aggstore.specs.Joining.{cell_shared, shared_key};
-    ghost use Rattle.dt_aggstore.specs.Sorting.{share_told, HoldsPartAt};
-    ghost use Rattle.dt_aggstore.specs.Keys.{same_key};
+    ghost use Rattle.std.specs.Prelude.{ℕ, ℤ, List, IfOk, IfSome, All, map};
+    ghost use Rattle.std.specs.List.Sorted.{IsSortedByKey};
+    ghost use Rattle.dt_aggfn.specs.declared.function.AggFn.{AggFn};
+    ghost use Rattle.dt_aggstore.specs.EntryNames.{key_of_row};
+    ghost use Rattle.dt_aggstore.specs.Joining.{cell_shared, shared_key, AreShares, AreSharesInSomeOrder};
+    ghost use Rattle.dt_aggstore.specs.Keys.{key_cmp, same_key};
+    ghost use Rattle.dt_aggstore.specs.declared.key.KeyPart.{KeyPart as Part};
+    ghost use Rattle.dt_aggstore.specs.declared.key.KeyPart.TheVariants.{Number};
+    ghost use Rattle.dt_aggstore.specs.declared.share.KeyShare.{KeyShare};
 
     /// The share of a key with this cell.
-    pub(crate) fn of(key: &'a Key, cell: &'a [u64]) -> Self
-        ensures key { result.key.now ≡ key.now }
+    #[inline(always)]
+    pub(crate) fn of(key: &'a Key, cell: &'a [u64], texts: &mut RecentTexts<'a>) -> Self
+        ensures key { shared_key result ≡ key.now.parts.items }
         ensures cell { cell_shared result ≡ cell.now }
     {
+        let mut parts = [PartShare::Nothing; KEYS_MAX];
+        for place in 0..key.parts.len() {
+            parts[place] = PartShare::of(&key.parts.as_slice()[place], texts);
+        }
         KeyShare {
-            part: PartStart::Nothing,
-            key,
+            parts,
             cell: ShareCell::of(cell),
         }
-    }
-
-    /// The same share with the part of its key at this place.
-    #[inline(always)]
-    pub(crate) fn begun_at(&self, place: usize, texts: &mut RecentTexts<'a>) -> Self
-        requires { place ≤ length (shared_key self.now) }
-        ensures same { share_told result ≡ share_told self.now }
-        ensures stands { HoldsPartAt place result }
-    {
-        KeyShare {
-            part: PartStart::at(self.key, place, texts),
-            key: self.key,
-            cell: self.cell,
-        }
-    }
-
-    /// Whether the key goes on after the part that is held, which is the one at this place.
-    #[inline(always)]
-    pub(crate) fn goes_on_after(&self, place: usize) -> bool
-        requires { HoldsPartAt place self.now }
-        ensures more { result ≡ goes_on (part_begun self.now.part) }
-        ensures few { IsTrue result → place + 1 < KEYS_MAX }
-    {
-        // the key, which lies elsewhere, is read only where it goes on
-        self.part.has_more() && place < self.key.parts.len() - 1
-    }
-
-    /// Whether the parts of two shares are the same, and more follow after both or none.
-    #[inline(always)]
-    pub(crate) fn stands_with(&self, other: &KeyShare<'_>) -> bool
-        ensures { IsTrue result ↔ (part_begun self.now.part ≡ part_begun other.now.part) }
-    {
-        self.part.order(&other.part).is_eq()
     }
 
     /// The words of its cell.
@@ -106,26 +55,81 @@ impl<'a> KeyShare<'a> {
         self.cell.words()
     }
 
+    /// How the keys of this share and another are ordered.
+    #[inline(always)]
+    fn order(&self, other: &KeyShare<'_>) -> Ordering
+        ensures { result ≡ key_cmp (shared_key self.now) (shared_key other.now) }
+    {
+        for place in 0..KEYS_MAX {
+            let order = self.parts[place].order(&other.parts[place]);
+            if order.is_ne() || self.parts[place].is_nothing() {
+                return order;
+            }
+        }
+        Ordering::Equal
+    }
+
     /// Whether this share and another are of one key.
     #[inline(always)]
     pub(crate) fn has_key_of(&self, other: &KeyShare<'_>) -> bool
         ensures { result ≡ same_key (shared_key self.now) (shared_key other.now) }
     {
-        match (self.part.whole(), other.part.whole()) {
-            (Some(one), Some(other)) => one == other,
-            _ => self.key.is(other.key),
+        self.order(other).is_eq()
+    }
+
+    /// Its key, for a row of its own. `Err`: there was no memory for it.
+    #[inline(always)]
+    pub(crate) fn key(&self, alloc: Global) -> Result<RowKey, AllocError>
+        ensures { IfOk result (λ key. key_of_row key ≡ shared_key self.now) }
+    {
+        match self.numbers() {
+            Some(numbers) => Ok(RowKey::Numbers(numbers)),
+            None => Ok(RowKey::Parts(self.all_parts(alloc)?)),
         }
     }
 
-    /// Its key, for a row of its own.
+    /// The parts of its key, if they are all numbers.
     #[inline(always)]
-    pub(crate) fn key(&self) -> Key
-        ensures { result.parts.items ≡ shared_key self.now }
+    fn numbers(&self) -> Option<ArrayVec<i64, KEYS_MAX>>
+        ensures { IfSome result (λ numbers. map Number numbers.items ≡ shared_key self.now) }
     {
-        match self.part.whole() {
-            // the key lies elsewhere, and needn't be read
-            Some(number) => Key::of_number(number),
-            None => self.key.copy(),
+        let mut numbers = ArrayVec::new();
+        for place in 0..KEYS_MAX {
+            match self.parts[place] {
+                PartShare::Number(number) => numbers.push(number),
+                PartShare::Nothing => return Some(numbers),
+                PartShare::Text(_) => return None,
+            }
         }
+        Some(numbers)
+    }
+
+    /// The parts of its key. `Err`: there was no memory for them.
+    #[inline(never)]
+    fn all_parts(&self, alloc: Global) -> Result<Vec<KeyPart>, AllocError>
+        ensures { IfOk result (λ parts. parts.items ≡ shared_key self.now) }
+    {
+        let room = self.parts.iter().filter(|part| !part.is_nothing()).count();
+        let mut parts = Vec::with_capacity(alloc, room)?;
+        for place in 0..KEYS_MAX {
+            match self.parts[place] {
+                PartShare::Number(number) => parts.push(KeyPart::Number(number))?,
+                PartShare::Text(text) => parts.push(KeyPart::Text(*text))?,
+                PartShare::Nothing => return Ok(parts),
+            }
+        }
+        Ok(parts)
+    }
+
+    /// Puts shares in order of key. In which order those of one key come isn't said: what their bags make together doesn't
+    /// depend on it.
+    pub(crate) fn sort(shares: &mut Vec<KeyShare<'_>>)
+        ensures sorted { IsSortedByKey shared_key key_cmp shares.new.items }
+        ensures bags { (function : AggFn) (bags : List Part → List ℤ) → AreShares function bags shares.old.items
+            → AreSharesInSomeOrder function bags shares.new.items }
+        ensures words { (words : ℕ) → All (λ (share : KeyShare). length (cell_shared share) ≡ words) shares.old.items
+            → All (λ (share : KeyShare). length (cell_shared share) ≡ words) shares.new.items }
+    {
+        shares.sort_unstable_by(|one, other| one.order(other));
     }
 }

@@ -15,20 +15,14 @@ ghost use Rattle.dt_aggstore.specs.declared.limits.TheConstants.{STORES_MAX};
 
 use crate::cells::cell_at;
 use crate::joining::rows_of;
-use crate::key::{Aggregation, Key};
+use crate::key::Aggregation;
 use crate::limits::STORES_MAX;
+use crate::recent_texts::RecentTexts;
+use crate::row::Row;
 use crate::share::KeyShare;
-use crate::sorting::sort_shares;
 use crate::store::AggStore;
-use dt_aggfn::{CellAnswer, any_order, cell_length};
+use dt_aggfn::{any_order, cell_length};
 use std::alloc::{AllocError, Global};
-
-/// A row of a table: a key, and what the aggregation's function makes of all its values.
-#[derive(Drop)]
-pub struct Row {
-    pub key: Key,
-    pub value: CellAnswer,
-}
 
 impl AggStore {
     /// The table of an aggregation over the stores of all processors, at most [`STORES_MAX`]: a row for each
@@ -45,20 +39,23 @@ impl AggStore {
         ensures value { (pasts : List Past) → AllZip IsAt pasts stores.now
             → IfOk result (λ rows. map form_of_row rows.items ≡ table_of pasts aggregation) }
     {
-        let mut shares = Vec::with_capacity(alloc, entries_in(stores))?;
+        let entries = entries_in(stores);
+        let mut shares = Vec::with_capacity(alloc, entries)?;
+        let mut texts = RecentTexts::new(alloc, entries);
         for store in stores {
-            store.share_into(aggregation, &mut shares)?;
+            store.share_into(aggregation, &mut texts, &mut shares)?;
         }
         // where several stores have a key, the order in which their bags are joined doesn't matter
         any_order();
-        let keys = sort_shares(&mut shares);
-        rows_of(alloc, aggregation.function, &shares, keys)
+        KeyShare::sort(&mut shares);
+        rows_of(alloc, aggregation.function, &shares)
     }
 
     /// Puts what this store has of an aggregation's keys at the end of shares. `Err`: there was no memory for it.
     fn share_into<'a>(
         &'a self,
         aggregation: Aggregation,
+        texts: &mut RecentTexts<'a>,
         shares: &mut Vec<KeyShare<'a>>,
     ) -> Result<(), AllocError>
         ensures words { All (λ (share : KeyShare). length (cell_shared share) ≡ cell_words aggregation.function)
@@ -76,7 +73,7 @@ impl AggStore {
             let words = name.aggregation.function.cell_words();
             if aggregation.is(name.aggregation) {
                 let cell = cell_at(&self.cells, place, words);
-                shares.push(KeyShare::of(&name.key, cell))?;
+                shares.push(KeyShare::of(&name.key, cell, texts))?;
             }
             place += words;
         }

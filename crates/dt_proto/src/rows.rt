@@ -1,15 +1,16 @@
 //! The rows of an aggregation, written without a JSON value for each: a table may have a million.
 ghost use Rattle.std.specs.Prelude.{◌≡◌, ◌∷◌, ◌++◌, OnOk, map};
+ghost use Rattle.std.specs.Fmt.{signed_decimal};
 ghost use Rattle.std.specs.List.{flat_map, join_with_byte};
 ghost use Rattle.dt_names.specs.Bytes.{comma};
 ghost use Rattle.dt_aggfn.specs.Answers.{form_of_answer, form_of_counted_row};
-ghost use Rattle.dt_aggstore.specs.EntryNames.{form_of_row};
+ghost use Rattle.dt_aggstore.specs.EntryNames.{form_of_row, key_of_row};
 ghost use Rattle.dt_proto.specs.Rows.{counted_text, function_word, least_text, part_text, row_text, value_text};
 
 use crate::text::{before_zeros, push_string, text_of};
 use crate::written::{push_number, push_signed};
 use dt_aggfn::{AggFn, CellAnswer, CountedRow};
-use dt_aggstore::{KeyPart, Row};
+use dt_aggstore::{KeyPart, Row, RowKey};
 use std::alloc::{AllocError, Global};
 
 /// The word for an aggregating function, as replies and programs carry it.
@@ -56,10 +57,46 @@ fn push_row(alloc: Global, line: &mut Vec<u8>, row: &Row) -> Result<(), AllocErr
     ensures { OnOk result (line.new.items ≡ line.old.items ++ row_text (form_of_row row.now)) }
 {
     line.extend_from_slice(b"{\"key\":[")?;
-    push_parts(alloc, line, row.key.parts.as_slice())?;
+    push_key(alloc, line, &row.key)?;
     line.extend_from_slice(b"],\"value\":")?;
     push_answer(line, &row.value)?;
     line.push(b'}')?;
+    Ok(())
+}
+
+/// Adds the parts of a row's key, with commas between them.
+fn push_key(alloc: Global, line: &mut Vec<u8>, key: &RowKey) -> Result<(), AllocError>
+    ensures { OnOk result (line.new.items
+        ≡ line.old.items ++ join_with_byte comma (map part_text (key_of_row key.now))) }
+{
+    match key {
+        RowKey::Numbers(numbers) => push_numbers(line, numbers.as_slice()),
+        RowKey::Parts(parts) => push_parts(alloc, line, parts),
+    }
+}
+
+/// Adds the parts of a key that are all numbers, with commas between them.
+fn push_numbers(line: &mut Vec<u8>, numbers: &[i64]) -> Result<(), AllocError>
+    ensures { OnOk result (line.new.items
+        ≡ line.old.items ++ join_with_byte comma (map signed_decimal numbers.now)) }
+{
+    let Some((first, more)) = numbers.split_first() else {
+        return Ok(());
+    };
+    push_signed(line, *first)?;
+    push_more_numbers(line, more)?;
+    Ok(())
+}
+
+/// Adds numbers of a key, each after a comma.
+fn push_more_numbers(line: &mut Vec<u8>, numbers: &[i64]) -> Result<(), AllocError>
+    ensures { OnOk result (line.new.items
+        ≡ line.old.items ++ flat_map (λ number. comma ∷ signed_decimal number) numbers.now) }
+{
+    for number in numbers {
+        line.push(b',')?;
+        push_signed(line, *number)?;
+    }
     Ok(())
 }
 

@@ -1,6 +1,6 @@
 //! Consumers: what each line is answered, and which firings are seen.
 use dt_aggfn::{AggFn, CellAnswer};
-use dt_aggstore::{KeyPart, Row};
+use dt_aggstore::{Row, RowKey};
 use dt_consumer::{Consumer, Draft};
 use dt_life::{Command, OptionValue, Refusal, Reply};
 use dt_machine::{Interest, Machine, PROBE_ID_MAX};
@@ -181,8 +181,8 @@ fn program(alloc: Global, clauses: &str) -> Result<String, Fail> {
 fn table(alloc: Global, function: AggFn, rows: &[Row]) -> Result<String, Fail> {
     let mut text = format!(in alloc; "{function:?}")?;
     for row in rows {
-        if let Some(KeyPart::Number(key)) = row.key.parts.as_slice().first() {
-            if let CellAnswer::Number(sum) = &row.value {
+        if let (RowKey::Numbers(numbers), CellAnswer::Number(sum)) = (&row.key, &row.value) {
+            if let Some(key) = numbers.as_slice().first() {
                 text.push_str(format!(in alloc; " {key}={sum}")?.as_str())?;
             }
         }

@@ -2,7 +2,9 @@
 
 use arrayvec::ArrayVec;
 use dt_aggfn::{AggFn, Bounds, CellAnswer};
-use dt_aggstore::{ADDED_LIMIT, AGGSIZE_MAX, AggStore, Aggregation, KEYS_MAX, Key, KeyPart, Row};
+use dt_aggstore::{
+    ADDED_LIMIT, AGGSIZE_MAX, AggStore, Aggregation, KEYS_MAX, Key, KeyPart, Row, RowKey,
+};
 use std::alloc::{AllocError, Global};
 use std::process::Abort;
 use std::test::Fail;
@@ -235,7 +237,7 @@ fn index_text(alloc: Global, store: &AggStore) -> Result<String, AllocError> {
         if !text.is_empty() {
             text.push(';')?;
         }
-        text.push_str(key_text(alloc, &held.key)?.as_str())?;
+        text.push_str(key_text(alloc, held.key.parts.as_slice())?.as_str())?;
         text.push_str(format!(in alloc; "@{place}")?.as_str())?;
     }
     for (place, word) in store.pool().iter().enumerate() {
@@ -245,10 +247,24 @@ fn index_text(alloc: Global, store: &AggStore) -> Result<String, AllocError> {
     Ok(text)
 }
 
+/// A row's key as a line writes it.
+fn row_key_text(alloc: Global, key: &RowKey) -> Result<String, AllocError> {
+    match key {
+        RowKey::Numbers(numbers) => {
+            let mut parts = Vec::new(alloc);
+            for number in numbers.as_slice() {
+                parts.push(KeyPart::Number(*number))?;
+            }
+            key_text(alloc, &parts)
+        }
+        RowKey::Parts(parts) => key_text(alloc, parts),
+    }
+}
+
 /// A key as a line writes it.
-fn key_text(alloc: Global, key: &Key) -> Result<String, AllocError> {
+fn key_text(alloc: Global, parts: &[KeyPart]) -> Result<String, AllocError> {
     let mut text = String::new(alloc);
-    for part in key.parts.as_slice() {
+    for part in parts {
         if !text.is_empty() {
             text.push(',')?;
         }
@@ -269,7 +285,7 @@ fn key_text(alloc: Global, key: &Key) -> Result<String, AllocError> {
 
 /// A row as a line writes it.
 fn row_text(alloc: Global, row: &Row) -> Result<String, AllocError> {
-    let mut text = key_text(alloc, &row.key)?;
+    let mut text = row_key_text(alloc, &row.key)?;
     text.push(':')?;
     match &row.value {
         CellAnswer::Number(value) => text.push_str(format!(in alloc; "{value}")?.as_str())?,

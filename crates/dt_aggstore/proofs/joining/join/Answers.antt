@@ -9,7 +9,7 @@ use Rattle.dt_aggstore.specs.Keys.{same_key}
 use Rattle.dt_aggstore.specs.Joining.{cell_joined, key_of, AreJoined, AreUnderWay, IsAnswerRow, joined_at, shared_key}
 use Rattle.dt_aggstore.specs.declared.joining.Joined.{Joined}
 use Rattle.dt_aggstore.specs.declared.share.KeyShare.{KeyShare}
-use Rattle.dt_aggstore.specs.declared.table.Row.{Row}
+use Rattle.dt_aggstore.specs.declared.row.Row.{Row}
 use denote.Ref.{Bor}
 use Rattle.dt_aggstore.proofs.Same.{key_decides}
 use Rattle.dt_aggstore.proofs.Joins.{last_bag, last_cell, merged_last, pushed_at}

@@ -4,7 +4,7 @@ use Rattle.std.specs.List.{AllZip}
 use Rattle.std.proofs.lemmas.List.{take_all, take_more}
 use Rattle.dt_aggstore.specs.Joining.{AreShares, IsAnswerRow, joined_at, shared_key}
 use Rattle.dt_aggstore.specs.declared.share.KeyShare.{KeyShare}
-use Rattle.dt_aggstore.specs.declared.table.Row.{Row}
+use Rattle.dt_aggstore.specs.declared.row.Row.{Row}
 use Rattle.dt_aggstore.proofs.Rows.{first_joined, way_alike, zip_push}
 use Rattle.dt_aggstore.proofs.Sharing.{at_own, bags_before, before_short, before_whole, none_after, shared_before}
 use Rattle.dt_aggstore.proofs.joining.rows_from.Goals as goal

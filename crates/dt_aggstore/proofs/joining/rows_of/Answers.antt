@@ -5,7 +5,7 @@ use Rattle.std.specs.List.Sorted.{IsSortedByKey}
 use Rattle.std.proofs.lemmas.List.{take_all}
 use Rattle.dt_aggstore.specs.Keys.{key_cmp}
 use Rattle.dt_aggstore.specs.Joining.{AreShares, IsAnswerRow, shared_key}
-use Rattle.dt_aggstore.specs.declared.table.Row.{Row}
+use Rattle.dt_aggstore.specs.declared.row.Row.{Row}
 use Rattle.dt_aggstore.proofs.Joins.{none_joined}
 use Rattle.dt_aggstore.proofs.Sharing.{nothing_made}
 use Rattle.dt_aggstore.proofs.joining.rows_of.Goals as goal
@@ -34,5 +34,5 @@ returns-in-empty c = λ bags a few.
       done = [];
       joined = none_joined function bags [] refl
           (λ key. nothing_made function (bags key) (subst (AreShares function bags) none a key));
-      made = subst (AllZip (IsAnswerRow function) []) (sym {A = List Row} c.in_ok-rows.ensures.items) tt;
+      made = subst (AllZip (IsAnswerRow function) []) (sym {A = List Row} c.new-rows.ensures.items) tt;
     }

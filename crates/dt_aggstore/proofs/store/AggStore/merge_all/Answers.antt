@@ -42,7 +42,7 @@ pub rows_of-requires-clause-words : goal.rows_of-requires-clause-words
 rows_of-requires-clause-words c =
     subst (All (λ (share : KeyShare). length (cell_shared share) ≡ cell_words c.args.aggregation.function))
     (sym c.deref.ensures.value)
-    (c.sort_shares-keys.ensures.words (cell_words c.args.aggregation.function) c.loop-store.invariant.words)
+    (c.sort.ensures.words (cell_words c.args.aggregation.function) c.loop-store.invariant.words)
 
 pub returns-clause-table : goal.returns-clause-table
 returns-clause-table c = λ pasts at.
@@ -54,7 +54,7 @@ returns-clause-table c = λ pasts at.
     λ key. omega (arith, c.requires, all_short aggregation pasts stores at key) in
     let shares = all_shared aggregation pasts stores at c.loop-store.store-index c.loop-store.shares.items
     c.loop-store-test.false (c.loop-store.invariant.shares pasts at) in
-    let anew = c.sort_shares-keys.ensures.bags aggregation.function bags shares in
+    let anew = c.sort.ensures.bags aggregation.function bags shares in
     let few_anew : (key : Key) → length (anew.others key) < BAG_LIMIT =
     λ key. omega (arith, few key, length_permutation (bags key) (anew.others key) (anew.same key)) in
     IfOk-weaker c.rows_of.result _ _

@@ -8,7 +8,6 @@ use Rattle.dt_aggfn.specs.Cells.{cell_words}
 use Rattle.dt_aggstore.specs.EntryNames.{entries_named, words_of}
 use Rattle.dt_aggstore.specs.Joining.{cell_shared, AreShares}
 use Rattle.dt_aggstore.specs.declared.key.Aggregation.{Aggregation}
-use Rattle.dt_aggstore.specs.declared.key.Key.{Key}
 use Rattle.dt_aggstore.specs.declared.share.KeyShare.{KeyShare}
 use Rattle.dt_aggstore.proofs.Same.{aggregation_is}
 use Rattle.dt_aggstore.proofs.Words.{within_at, read_at, words_more_at, words_fit_at}
@@ -96,7 +95,7 @@ loop-name-preserved c =
                 (c.loop-name.invariant.shares past at bags a) c.cell_length.ensures.words
                 (sym c.is.ensures ∙ w.if-is.true) c.loop-name.place c.cell_words-words.result
                 c.loop-name.invariant.place_is c.cell_words-words.ensures.words _
-                (ap (λ (k : Key). k.parts.items) w.of.ensures.key)
+                w.of.ensures.key
                 (w.of.ensures.cell ∙ w.cell_at-cell.ensures
                 ∙ ap (λ xs. slice_range xs c.loop-name.place (c.loop-name.place + c.cell_words-words.result))
                 w.deref.ensures.value));

@@ -1,0 +1,74 @@
+-- The first place at which parts differ decides, or at which both have none.
+use Rattle.std.proofs.Common.{◌≡◌, ℕ, ◌+◌, ◌<◌, get_or, drop, refl, sym, ap, ◌∙◌, arith}
+use Rattle.std.specs.Prelude.{Option}
+use Rattle.std.specs.Ordering.{is_ne}
+use Rattle.std.proofs.lemmas.Bool.{false≢true}
+use Rattle.dt_aggstore.specs.Joining.{shared_key}
+use Rattle.dt_aggstore.specs.Keys.{key_cmp}
+use Rattle.dt_aggstore.specs.Shares.{part_told, parts_told}
+use Rattle.dt_aggstore.specs.declared.key.KeyPart.{KeyPart}
+use Rattle.dt_aggstore.specs.declared.limits.TheConstants.{KEYS_MAX}
+use Rattle.dt_aggstore.specs.declared.part_share.PartShare.TheVariants.{Nothing}
+use Rattle.dt_aggstore.specs.declared.share.KeyShare.{KeyShare}
+use Rattle.dt_aggstore.proofs.Parts.{both_end, later_decide, none_past, parts_decide, then_parts, told_from}
+use Rattle.dt_aggstore.proofs.share.KeyShare.order.Goals as goal
+use Rattle.dt_aggstore.proofs.share.KeyShare.order.Goals.{then-is_ne-via-then-is_ne, then-is_ne-via-else-is_ne+then-is_nothing}
+
+pub loop-place-init : goal.loop-place-init
+loop-place-init c = refl
+
+module _ (self other : KeyShare) (place : ℕ) (small : place < KEYS_MAX)
+    (so_far : key_cmp (shared_key self) (shared_key other)
+    ≡ key_cmp (parts_told (drop place self.parts)) (parts_told (drop place other.parts))) where
+  abbrev Part : Option KeyPart
+  Part = part_told (get_or self.parts place Nothing)
+
+  abbrev Other-part : Option KeyPart
+  Other-part = part_told (get_or other.parts place Nothing)
+
+  -- the keys are ordered as what they have from a place on
+  by_parts : key_cmp (shared_key self) (shared_key other)
+      ≡ key_cmp (then_parts Part (parts_told (drop (place + 1) self.parts)))
+      (then_parts Other-part (parts_told (drop (place + 1) other.parts)))
+  by_parts =
+      so_far
+      ∙ (λ i. key_cmp (told_from self.parts place Nothing (omega (arith, small, self.places)) i)
+      (told_from other.parts place Nothing (omega (arith, small, other.places)) i))
+
+pub returns-then-is_ne : goal.returns-then-is_ne
+returns-then-is_ne c =
+    let self = c.args.self.now in
+    let other = c.args.other.now in
+    let place = c.loop-place.place in
+    let parts = by_parts self other place c.loop-place-test.true c.loop-place.invariant in
+    let later = parts_told (drop (place + 1) self.parts) in
+    let other_later = parts_told (drop (place + 1) other.parts) in
+    let one = part_told (get_or self.parts place Nothing) in
+    let two = part_told (get_or other.parts place Nothing) in
+    c.order-order.ensures
+    ∙ (elim c.then-is_ne.branch [
+      | then-is_ne-via-then-is_ne w ↦
+          parts_decide one two later other_later (sym (ap is_ne c.order-order.ensures) ∙ sym c.is_ne.ensures ∙ w.if-is_ne.true)
+      | then-is_ne-via-else-is_ne+then-is_nothing w ↦
+          both_end one two later other_later (sym (ap is_ne c.order-order.ensures) ∙ sym c.is_ne.ensures ∙ w.if-is_ne.false)
+          (w.is_nothing.ensures.0 w.if-is_nothing.true)
+    ])
+    ∙ sym parts
+
+pub loop-place-preserved : goal.loop-place-preserved
+loop-place-preserved c =
+    let self = c.args.self.now in
+    let other = c.args.other.now in
+    let place = c.loop-place.place in
+    by_parts self other place c.loop-place-test.true c.loop-place.invariant
+    ∙ later_decide (part_told (get_or self.parts place Nothing)) (part_told (get_or other.parts place Nothing))
+    (parts_told (drop (place + 1) self.parts)) (parts_told (drop (place + 1) other.parts))
+    (sym (ap is_ne c.order-order.ensures) ∙ sym c.is_ne.ensures ∙ c.if-is_ne.false)
+    (λ none. false≢true (sym c.if-is_nothing.false ∙ c.is_nothing.ensures.1 none))
+
+pub returns : goal.returns
+returns c =
+    sym (c.loop-place.invariant
+    ∙ (λ i. key_cmp
+    (none_past c.args.self.now.parts c.loop-place.place (omega (arith, c.loop-place-test.false, c.args.self.now.places)) i)
+    (none_past c.args.other.now.parts c.loop-place.place (omega (arith, c.loop-place-test.false, c.args.other.now.places)) i)))
