@@ -1,11 +1,15 @@
 //! What clauses leave, byte by byte, and records back from their bytes, up to a megabyte of them.
+use arrayvec::ArrayVec;
 use dt_cred::{Mode, Probe, Process};
 use dt_expr::{Scene, Value};
 use dt_lang::{ParseProgram, Program};
 use dt_locals::Locals;
 use dt_machine::Firing;
 use dt_names::{ProbeTuple, ShortText};
-use dt_record::{Layout, SpecEnd, Taken, split, taken};
+use dt_record::{
+    Layout, RECORD_MAX, SpecEnd, Taken, VALUES_MAX, give_only, only_gives, only_records,
+    record_only, split, taken,
+};
 use dt_speculation::Specs;
 use std::alloc::Global;
 use std::test::Fail;
@@ -50,11 +54,7 @@ fn words_of(alloc: Global, left: &Taken) -> Result<String, Fail> {
         Some(bytes) => digits_of(alloc, bytes.as_slice())?,
         None => String::from_str(alloc, "-")?,
     };
-    for value in left.values.as_slice() {
-        if let Value::Number(number) = value {
-            words.push_str(&format!(in alloc; " = {number}")?)?;
-        }
-    }
+    push_given(alloc, &mut words, left.values.as_slice())?;
     if let Some(id) = left.spec {
         words.push_str(&format!(in alloc; " spec {id}")?)?;
     }
@@ -68,6 +68,16 @@ fn words_of(alloc: Global, left: &Taken) -> Result<String, Fail> {
         words.push_str(&format!(in alloc; " exit {status}")?)?;
     }
     Ok(words)
+}
+
+/// Adds the numbers that are given, in the words of the table.
+fn push_given(alloc: Global, words: &mut String, values: &[Value]) -> Result<(), Fail> {
+    for value in values {
+        if let Value::Number(number) = value {
+            words.push_str(&format!(in alloc; " = {number}")?)?;
+        }
+    }
+    Ok(())
 }
 
 fn digits_of(alloc: Global, bytes: &[u8]) -> Result<String, Fail> {
@@ -106,6 +116,64 @@ fn told_again(alloc: Global, text: &str, scene: &Scene, left: &mut Taken) -> Res
         Ok(false) => Ok(String::from_str(alloc, "passed")?),
         Err(_) => Ok(String::from_str(alloc, "fault")?),
     }
+}
+
+/// Room for what clauses leave that do nothing but record, or nothing but give.
+#[derive(Drop)]
+struct BareRoom {
+    record: ArrayVec<u8, RECORD_MAX>,
+    values: ArrayVec<Value, VALUES_MAX>,
+    /// How many clauses did nothing but record so far, and how many nothing but give.
+    recording: usize,
+    giving: usize,
+}
+
+/// What it leaves by the way of such clauses, in place of what those before it left; nothing where it does more.
+fn told_bare(
+    alloc: Global,
+    text: &str,
+    scene: &Scene,
+    room: &mut BareRoom,
+) -> Result<Option<String>, Fail> {
+    let program = parsed(alloc, text)?;
+    let locals = Locals::new(alloc, 64)?;
+    let clause = program.clauses.first().ok_or("no clause")?;
+    let (held, words) = if only_records(clause) {
+        room.recording = room.recording.saturating_add(1);
+        let held = record_only(&mut room.record, 5, clause, scene, &locals);
+        (held, digits_of(alloc, room.record.as_slice())?)
+    } else if only_gives(clause) {
+        room.giving = room.giving.saturating_add(1);
+        let held = give_only(&mut room.values, clause, scene, &locals);
+        let mut words = String::from_str(alloc, "-")?;
+        push_given(alloc, &mut words, room.values.as_slice())?;
+        (held, words)
+    } else {
+        return Ok(None);
+    };
+    Ok(Some(match held {
+        Ok(true) => words,
+        Ok(false) => String::from_str(alloc, "passed")?,
+        Err(_) => String::from_str(alloc, "fault")?,
+    }))
+}
+
+/// The first line of the table that does not hold by the way of such clauses.
+fn first_wrong_of_the_bare(
+    alloc: Global,
+    scene: &Scene,
+    room: &mut BareRoom,
+) -> Result<Option<&'static str>, Fail> {
+    for line in CLAUSES.lines() {
+        if let Some((text, wanted)) = line.split_once(" => ") {
+            if let Some(told) = told_bare(alloc, text, scene, room)? {
+                if told.as_str() != wanted {
+                    return Ok(Some(line));
+                }
+            }
+        }
+    }
+    Ok(None)
 }
 
 /// The first line of the table that does not hold.
@@ -152,6 +220,18 @@ fn leaves_what_the_table_says(rt: HostRuntime) -> Result<(), Fail> {
         firing: &firing,
     };
     assert_eq!(rt; first_wrong(rt.alloc(), &scene)?, None);
+    let mut room = BareRoom {
+        record: ArrayVec::new(),
+        values: ArrayVec::new(),
+        recording: 0,
+        giving: 0,
+    };
+    assert_eq!(rt;
+        first_wrong_of_the_bare(rt.alloc(), &scene, &mut room)?,
+        None
+    );
+    // so many lines of the table have such a way
+    assert_eq!(rt; (room.recording, room.giving), (12, 3));
     Ok(())
 }
 
