@@ -4,7 +4,7 @@
 //! `call SEAT LINE`, `fire CPU`, `tell SEAT CPU`, `meet SEAT CPU` and `close SEAT`; the seats are the first three. To a `meet` it writes which processor was met,
 //! whether the seat's trail is complete for it, which is where the session still traces by its `status`, and how many items the trail had. `measure MACHINE INTERESTED OTHERS` opens so many sessions that enable the
 //! probe of the scripts, and so many that enable another, and lets the last two processors fire their whole scripts, one after the other, or, with the word `together`, at
-//! the same time, each on a thread of its own; with one more word, that many firings each, one after the other. It writes how many firings were made. With no word the
+//! the same time, each on a thread of its own; with one more word, that many firings each, one after the other. It writes how many firings were made, and how long they took. With no word the
 //! program does nothing.
 #![tactic(auto)]
 
@@ -15,10 +15,11 @@ mod player;
 
 use dt_hub::{CpuSeat, Hub, HubParts, HubSite};
 use dt_machine::Machine;
-use measuring::{Scene, opens};
+use measuring::{Measured, Scene, opens};
 use player::Player;
 use std::alloc::Global;
 use std::marker::Brand;
+use std::rt::Clock;
 use std::sync::Wait;
 use std::thread::Threads;
 use std::{env, fs, io};
@@ -79,7 +80,7 @@ fn asked(rt: &HostRuntime) -> Option<(Vec<u8>, Work)> {
 }
 
 /// Makes a hub, does the work on it, and ends it.
-fn staged<J: HubSite + Send + Sync, R: Threads + Wait + Sync>(
+fn staged<J: HubSite + Send + Sync, R: Threads + Wait + Clock + Sync>(
     rt: &R,
     alloc: Global,
     parts: HubParts,
@@ -97,16 +98,25 @@ fn staged<J: HubSite + Send + Sync, R: Threads + Wait + Sync>(
         Work::Play { steps } => played(rt, alloc, &hub, &mut tokens, steps),
         Work::Measure(scene) => {
             let left = scene.interested.saturating_add(scene.others);
-            let count = opens(rt, alloc, &hub, &mut tokens, scene, left);
-            counted(alloc, count)
+            let measured = opens(rt, alloc, &hub, &mut tokens, scene, left);
+            told(alloc, &measured)
         }
     };
     hub.end(rt);
     text
 }
 
-fn counted(alloc: Global, count: u64) -> Option<Vec<u8>> {
-    Some(format!(in alloc; "{count}\n").ok()?.into_bytes())
+/// The line that tells what was measured.
+fn told(alloc: Global, measured: &Measured) -> Option<Vec<u8>> {
+    let Measured {
+        firings,
+        spent,
+        elapsed,
+    } = *measured;
+    let line = format!(in alloc;
+        "{firings} firings, {spent} ns of their threads, {elapsed} ns in all\n"
+    );
+    Some(line.ok()?.into_bytes())
 }
 
 /// Plays the lines.

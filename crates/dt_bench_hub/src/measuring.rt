@@ -1,9 +1,12 @@
 //! Sessions that trace, and processors that fire.
+use crossbeam_utils::CachePadded;
 use dt_hub::{CpuSeat, Fired, Hub, HubSite, NoGate, Session};
 use dt_proto::Asked;
 use std::alloc::Global;
+use std::rt::Clock;
 use std::sync::Wait;
 use std::thread::{Threads, join};
+use std::time::Instant;
 
 /// What is measured.
 #[derive(Clone, Copy, Debug)]
@@ -28,8 +31,47 @@ const INTERESTED: &str = r#"{"cmd":"enable","text":"syscall::read:entry{trace(ar
 
 const OTHER: &str = r#"{"cmd":"enable","text":"fbt:genunix:f1:entry{trace(arg0)}"}"#;
 
+/// What was measured of firings.
+#[derive(Clone, Copy, Debug)]
+pub(crate) struct Measured {
+    /// How many were made.
+    pub(crate) firings: u64,
+    /// The nanoseconds that the threads took for them together. On a machine that does nothing else, that is their processor time.
+    pub(crate) spent: u64,
+    /// The nanoseconds from the first to the last.
+    pub(crate) elapsed: u64,
+}
+
+impl Measured {
+    /// No firing.
+    fn none() -> Measured {
+        Measured {
+            firings: 0,
+            spent: 0,
+            elapsed: 0,
+        }
+    }
+
+    /// These firings, and then others.
+    fn then(self, later: Measured) -> Measured {
+        Measured {
+            firings: self.firings.wrapping_add(later.firings),
+            spent: self.spent.wrapping_add(later.spent),
+            elapsed: self.elapsed.wrapping_add(later.elapsed),
+        }
+    }
+
+    /// These firings, and others at the same time.
+    fn beside(self, other: Measured) -> Measured {
+        Measured {
+            elapsed: self.elapsed.max(other.elapsed),
+            ..self.then(other)
+        }
+    }
+}
+
 /// A processor fires its script, so many places of it at most.
-fn fires<J: HubSite, R: Wait>(rt: &R, hub: &Hub<J>, token: &mut CpuSeat<J>, most: u64) -> u64 {
+fn fires_most<J: HubSite, R: Wait>(rt: &R, hub: &Hub<J>, token: &mut CpuSeat<J>, most: u64) -> u64 {
     for count in 0..most {
         match hub.fire(rt, token, &NoGate) {
             Fired::End => return count,
@@ -39,39 +81,66 @@ fn fires<J: HubSite, R: Wait>(rt: &R, hub: &Hub<J>, token: &mut CpuSeat<J>, most
     most
 }
 
+/// The same, measured. Where the clock can't be read no firing is told.
+fn fires<J: HubSite, R: Wait + Clock>(
+    rt: &R,
+    hub: &Hub<J>,
+    token: &mut CpuSeat<J>,
+    most: u64,
+) -> Measured {
+    let begun = Instant::now(rt);
+    let firings = fires_most(rt, hub, token, most);
+    match begun.ok().and_then(|begun| nanoseconds_since(rt, begun)) {
+        Some(nanoseconds) => Measured {
+            firings,
+            spent: nanoseconds,
+            elapsed: nanoseconds,
+        },
+        None => Measured::none(),
+    }
+}
+
+/// How many nanoseconds went by since then. `None`: the clock can't be read.
+fn nanoseconds_since<R: Clock>(rt: &R, begun: Instant) -> Option<u64> {
+    u64::try_from(begun.elapsed(rt).ok()?.as_nanos()).ok()
+}
+
 /// Two processors fire their whole scripts at the same time, each on a thread of its own.
-fn fire_together<J: HubSite + Send + Sync, R: Threads + Wait + Sync>(
+fn fire_together<J: HubSite + Send + Sync, R: Threads + Wait + Clock + Sync>(
     rt: &R,
     hub: &Hub<J>,
     one: &mut CpuSeat<J>,
     other: &mut CpuSeat<J>,
-) -> u64 {
+) -> Measured {
     let (first, second) = join(
         rt,
         || fires(rt, hub, one, u64::MAX),
         || fires(rt, hub, other, u64::MAX),
     );
-    first.wrapping_add(second)
+    first.beside(second)
 }
 
 /// Two processors fire their scripts: the whole ones at the same time or one after the other, and so many places of them one after the other.
-fn both_fire<J: HubSite + Send + Sync, R: Threads + Wait + Sync>(
+fn both_fire<J: HubSite + Send + Sync, R: Threads + Wait + Clock + Sync>(
     rt: &R,
     hub: &Hub<J>,
     tokens: &mut Vec<CpuSeat<J>>,
     scene: &Scene,
-) -> u64 {
-    let Some(mut one) = tokens.pop() else {
-        return 0;
+) -> Measured {
+    let Some(one) = tokens.pop() else {
+        return Measured::none();
     };
-    let Some(mut other) = tokens.pop() else {
+    // each on cache lines of its own, as it would be on the stack of its own thread
+    let mut one = CachePadded::new(one);
+    let Some(other) = tokens.pop() else {
         return fires(rt, hub, &mut one, scene.most);
     };
+    let mut other = CachePadded::new(other);
     if scene.is_together && scene.most == u64::MAX {
         return fire_together(rt, hub, &mut one, &mut other);
     }
     let first = fires(rt, hub, &mut other, scene.most);
-    first.wrapping_add(fires(rt, hub, &mut one, scene.most))
+    first.then(fires(rt, hub, &mut one, scene.most))
 }
 
 /// Asks a line, whatever is answered.
@@ -109,22 +178,22 @@ fn traces<J: HubSite, R: Wait>(
 }
 
 /// Opens a session that traces, and so on until none is left to open, the others last; then the processors fire. The last closes first.
-pub(crate) fn opens<J: HubSite + Send + Sync, R: Threads + Wait + Sync>(
+pub(crate) fn opens<J: HubSite + Send + Sync, R: Threads + Wait + Clock + Sync>(
     rt: &R,
     alloc: Global,
     hub: &Hub<J>,
     tokens: &mut Vec<CpuSeat<J>>,
     scene: &Scene,
     left: u64,
-) -> u64 {
+) -> Measured {
     if left == 0 {
         return both_fire(rt, hub, tokens, scene);
     }
     let Ok(mut session) = hub.open(rt, alloc, b"root") else {
-        return 0;
+        return Measured::none();
     };
     traces(rt, alloc, hub, &mut session, left > scene.others);
-    let count = opens(rt, alloc, hub, tokens, scene, left - 1);
+    let measured = opens(rt, alloc, hub, tokens, scene, left - 1);
     hub.close(rt, session);
-    count
+    measured
 }

@@ -1,6 +1,7 @@
 //! The hub.
 ghost use Rattle.std.specs.Prelude.{◌≡◌, IfOk};
 
+use crossbeam_utils::CachePadded;
 use dt_chain::{Chains, SEATS};
 use dt_facts::{Facts, Maker};
 use dt_machine::Machine;
@@ -49,6 +50,9 @@ impl HubParts {
     }
 }
 
+/// The seats, each under a lock of its own and on cache lines of its own: processors that fire for different seats at once don't wait for each other's lines.
+pub(crate) type LockedSeats<J> = Vec<CachePadded<Mutex<LockedSeat<J>>>>;
+
 /// A machine whose processors fire on threads of their own, and [`SEATS`] seats, each under a lock of its own, for the sessions that
 /// trace it. Threads share it by a `&`.
 ///
@@ -57,7 +61,7 @@ pub struct Hub<J: HubSite> {
     pub(crate) machine: Machine,
     pub(crate) facts: Facts,
     pub(crate) chains: Mutex<HubPublisher<J>>,
-    pub(crate) seats: Vec<Mutex<LockedSeat<J>>>,
+    pub(crate) seats: LockedSeats<J>,
 }
 
 impl<J: HubSite> Model for Hub<J> {

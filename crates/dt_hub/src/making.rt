@@ -8,7 +8,8 @@ ghost use Rattle.dt_publisher.specs.Publishers.{AreOwnWrites};
 ghost use Rattle.dt_seat.specs.Names.{first_book, first_name};
 
 use crate::cpu_seat::CpuSeat;
-use crate::hub::{Hub, HubParts};
+use crate::hub::{Hub, HubParts, LockedSeats};
+use crossbeam_utils::CachePadded;
 use dt_chain::{SEATS, Seat};
 use dt_facts::{Facts, Maker, Share};
 use dt_machine::Machine;
@@ -57,7 +58,7 @@ fn seats<J: HubSite>(
     facts: &Facts,
     maker: &mut Maker,
     shares: Vec<Share>,
-) -> Result<(Vec<Mutex<LockedSeat<J>>>, Vec<Vec<Follower<J>>>), AllocError>
+) -> Result<(LockedSeats<J>, Vec<Vec<Follower<J>>>), AllocError>
     requires machine { machine.now ≡ J.contents }
     requires facts { facts.now ≡ J.word }
     requires maker { maker.old ≡ making J.word (first_name J.contents.registry.cpus 0) }
@@ -76,7 +77,7 @@ fn seats<J: HubSite>(
         let writes = shares.remove(0);
         let (locked, followers) = LockedSeat::new(alloc, machine, facts, maker, writes, seat)?;
         deal(&mut hands, seat, followers)?;
-        seats.push(Mutex::new(locked))?;
+        seats.push(CachePadded::new(Mutex::new(locked)))?;
     }
     Ok((seats, hands))
 }
@@ -120,7 +121,7 @@ fn all_seats<J: HubSite>(
     maker: &mut Maker,
     publisher: &HubPublisher<J>,
     shares: Vec<Share>,
-) -> Result<(Vec<Mutex<LockedSeat<J>>>, Vec<CpuSeat<J>>), AllocError>
+) -> Result<(LockedSeats<J>, Vec<CpuSeat<J>>), AllocError>
     requires machine { machine.now ≡ J.contents }
     requires facts { facts.now ≡ J.word }
     requires maker { maker.old ≡ making J.word (first_name J.contents.registry.cpus 0) }

@@ -10,6 +10,7 @@ use mathlib.Core.List.{List}
 use mir.Syntax.{Ty}
 use Prim.Native.Nat.{ℕ}
 use Rattle.std.proofs.Crossing as std
+use Rattle.crossbeam_utils.proofs.cache_padded.CachePadded.TheSendSync as padded
 use Rattle.dt_chain.specs.declared.book.Site as site
 use Rattle.dt_seat.proofs.hub_publisher.HubPublisher.TheSendSync as writer
 use Rattle.dt_facts.proofs.word.Facts.TheSendSync as facts
@@ -22,7 +23,7 @@ use Rattle.dt_hub.specs.contracts.hub.Hub.TheInside as inside
 
 inside_sync : (J : RattleType) (h : hub_site.Ghosts J.Denot) (s : site.Ghosts J.Denot) (t : traced.Ghosts J.Denot) → IsSync (inside.the_row J h s t)
 inside_sync J h s t = recorded_sync (inside.the_field J h s t).row _ _ (inside.the_type J h s t).to_one (struct_sync (shape (inside.the_type J h s t))
-    (search (machine.the_sync, sendable), (search (facts.the_sync, sendable), (search (writer.the_send, std.crosses, sendable), (search (locked_send, std.crosses, sendable), tt)))))
+    (search (machine.the_sync, sendable), (search (facts.the_sync, sendable), (search (writer.the_send, std.crosses, sendable), (search (locked_send, padded.the_sync, std.crosses, sendable), tt)))))
 
 pub hub_sync : (J : RattleType) (h : hub_site.Ghosts J.Denot) (s : site.Ghosts J.Denot) (t : traced.Ghosts J.Denot) → IsSync (hub.the_row J h s t)
 hub_sync J h s t = search (inside_sync, sendable)
