@@ -10,8 +10,8 @@ use Rattle.dt_hub.specs.contracts.hub.Hub as hub
 use Rattle.dt_hub.specs.laws.Crossing.{captured_send, hub_sync}
 use Rattle.dt_bench_hub.proofs.measuring.fire_together.Goals as goal
 
-pub join-first-requires-send-F : goal.join-first-requires-send-F
-join-first-requires-send-F g c κs within =
+pub join-requires-send-F : goal.join-requires-send-F
+join-requires-send-F g c κs within =
     let J = param 0 g.row.J in
     let processor = cpu_seat.the_row J g.J.HubSite g.J.Site g.J.Traced in
     let processor_send : IsSend processor = search (cpu_seat_crossing.the_send, sendable) in
