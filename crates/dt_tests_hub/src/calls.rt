@@ -1,10 +1,10 @@
-//! The calls that are tested, each in one function that promises nothing.
+//! What a test does with a hub, and what it takes for granted there.
 ghost use Rattle.std.specs.Prelude.{◌≡◌};
 
-use dt_chain::{SEATS, Seat};
-use dt_hub::{CpuSeat, Fired, Gate, Hub, HubParts, HubSite, LineAnswer, Offered, Session};
+use dt_chain::SEATS;
+use dt_hub::{CpuSeat, Hub, HubParts, HubSite, Offered, Session};
+use dt_hub_calls::{answered, at_seat, two_of};
 use dt_machine::Machine;
-use dt_proto::Asked;
 use std::alloc::Global;
 use std::marker::Brand;
 use std::process::Abort;
@@ -55,11 +55,8 @@ pub(crate) fn both<J: HubSite, R: Abort>(
     rt: &R,
     tokens: Vec<CpuSeat<J>>,
 ) -> Result<(CpuSeat<J>, CpuSeat<J>), Fail> {
-    let mut tokens = tokens;
     assert_eq!(rt; tokens.len(), 2);
-    let other = tokens.pop().ok_or("no processor")?;
-    let one = tokens.pop().ok_or("no processor")?;
-    Ok((one, other))
+    Ok(two_of(tokens).ok_or("no processor")?)
 }
 
 /// A session that is opened: there has to be a seat, and memory.
@@ -69,27 +66,8 @@ pub(crate) fn opened<J: HubSite, R: Wait + Abort>(
     hub: &Hub<J>,
     name: &str,
 ) -> Session<J> {
-    match hub.open(rt, alloc, name.as_bytes()) {
-        Ok(session) => session,
-        Err(_) => {
-            assert!(rt; false, "no session");
-            unreachable!()
-        }
-    }
-}
-
-/// What a session is answered to a line.
-pub(crate) fn answered<J: HubSite, R: Wait>(
-    rt: &R,
-    alloc: Global,
-    hub: &Hub<J>,
-    session: &mut Session<J>,
-    line: &str,
-) -> LineAnswer {
-    match line.as_bytes().to_vec(alloc) {
-        Ok(bytes) => hub.ask(rt, alloc, session, &Asked::Line(bytes)),
-        Err(_) => LineAnswer::Memory,
-    }
+    hub.open(rt, alloc, name.as_bytes())
+        .expect(rt, "no session")
 }
 
 /// A line is answered by this text.
@@ -103,34 +81,6 @@ pub(crate) fn says<J: HubSite, R: Wait + Abort>(
 ) {
     let answer = answered(rt, alloc, hub, session, line);
     assert!(rt; answer.text() == reply.as_bytes(), "another reply");
-}
-
-/// What the last firing came to at a seat.
-pub(crate) fn at_seat<J: HubSite>(token: &CpuSeat<J>, number: u32) -> Offered {
-    match Seat::new(number) {
-        Some(seat) => token.offered(seat),
-        None => Offered::NotNamed,
-    }
-}
-
-/// A processor's next firing.
-pub(crate) fn fired<J: HubSite, R: Wait, G: Gate>(
-    rt: &R,
-    hub: &Hub<J>,
-    token: &mut CpuSeat<J>,
-    gate: &G,
-) -> Fired {
-    hub.fire(rt, token, gate)
-}
-
-/// A session and a processor meet.
-pub(crate) fn meets<J: HubSite, R: Wait>(
-    rt: &R,
-    hub: &Hub<J>,
-    session: &mut Session<J>,
-    token: &mut CpuSeat<J>,
-) {
-    hub.meet(rt, session, token);
 }
 
 /// The last firing came to this at one seat, and named no other.

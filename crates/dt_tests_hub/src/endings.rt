@@ -1,7 +1,8 @@
 //! What an answer tells of its session's end.
-use crate::calls::{Play, answered, opened, run};
-use crate::paths::{DONE, MACHINE};
+use crate::calls::{Play, opened, run};
 use dt_hub::{CpuSeat, Hub, HubSite, LineAnswer};
+use dt_hub_calls::answered;
+use dt_hub_calls::texts::{DONE, MACHINE};
 use std::alloc::Global;
 use std::process::Abort;
 use std::sync::Wait;

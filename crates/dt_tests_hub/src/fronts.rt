@@ -1,7 +1,8 @@
 //! What two processors have seen of the writes.
 use crate::calls::{Play, both, run, says};
-use crate::paths::{DONE, MACHINE, STOP, looks, names_nobody, tracing};
+use crate::paths::{looks, names_nobody, tracing};
 use dt_hub::{CpuSeat, Hub, HubSite};
+use dt_hub_calls::texts::{DONE, MACHINE, STOP};
 use std::alloc::Global;
 use std::process::Abort;
 use std::sync::Wait;

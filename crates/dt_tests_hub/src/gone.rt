@@ -1,8 +1,9 @@
 //! A processor whose firing found a life gone, and the session that was opened on its seat then.
-use crate::calls::{Play, at_seat, both, fired, run};
+use crate::calls::{Play, both, run};
 use crate::met::{Firing, GOES, MACHINE, comes_to, meet};
 use crate::paths::tracing;
 use dt_hub::{CpuSeat, Fired, Gate, Hub, HubSite, Moment, Offered, Session};
+use dt_hub_calls::{at_seat, fired};
 use std::alloc::{AllocError, Global};
 use std::process::Abort;
 use std::sync::{Mutex, MutexGuard, Wait};

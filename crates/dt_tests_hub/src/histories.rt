@@ -1,7 +1,8 @@
 //! A history that two scripts make, and that widens its trail.
-use crate::calls::{Play, both, fired, opened, run, says};
-use crate::paths::{DONE, GO};
+use crate::calls::{Play, both, opened, run, says};
 use dt_hub::{CpuSeat, Fired, Hub, HubSite, NoGate};
+use dt_hub_calls::texts::{DONE, GO};
+use dt_hub_calls::{fired, with_scripts};
 use std::alloc::Global;
 use std::process::Abort;
 use std::sync::Wait;
@@ -30,28 +31,6 @@ const STATUS: &str = r#"{"cmd":"status"}"#;
 
 const ENDED: &str =
     "{\"aggdrops\":[0,0],\"cause\":\"history\",\"dyndrops\":[0,0],\"errors\":[0,0],\"exit\":null,\"ok\":true,\"phase\":\"stopped\",\"seen\":65537,\"specdrops\":[0,0],\"specfails\":0}\n";
-
-/// A machine's text: its head, and then for each processor a script that repeats the same firings.
-pub(crate) fn with_scripts(
-    alloc: Global,
-    head: &str,
-    cpus: u32,
-    firings: &str,
-    times: u32,
-) -> Result<String, Fail> {
-    let mut text = String::new(alloc);
-    text.push_str(head)?;
-    for cpu in 0..cpus {
-        text.push_str(if cpu == 0 { "[" } else { ",[" })?;
-        for time in 0..times {
-            text.push_str(if time == 0 { "" } else { "," })?;
-            text.push_str(firings)?;
-        }
-        text.push_str("]")?;
-    }
-    text.push_str("]}")?;
-    Ok(text)
-}
 
 /// Two processors take turns, until their scripts have ended.
 fn fires_all<J: HubSite, R: Wait>(

@@ -1,4 +1,4 @@
-//! Tests of the hub of `dt_hub`, by its public calls alone, in one thread and in several.
+//! Tests of the hub of `dt_hub`, by its public calls alone, in one thread.
 //!
 //! The crate has no function of its own.
 #![tactic(auto)]
@@ -6,21 +6,13 @@
 #[cfg(test)]
 mod calls;
 #[cfg(test)]
-mod crowd;
-#[cfg(test)]
 mod endings;
 #[cfg(test)]
-mod flag;
-#[cfg(test)]
 mod fronts;
-#[cfg(test)]
-mod gates;
 #[cfg(test)]
 mod gone;
 #[cfg(test)]
 mod histories;
-#[cfg(test)]
-mod meeting;
 #[cfg(test)]
 mod met;
 #[cfg(test)]
@@ -28,16 +20,6 @@ mod paths;
 #[cfg(test)]
 mod refused;
 #[cfg(test)]
-mod rows;
-#[cfg(test)]
-mod scenes;
-#[cfg(test)]
 mod seats;
 #[cfg(test)]
-mod shared_row;
-#[cfg(test)]
-mod stays;
-#[cfg(test)]
 mod telling;
-#[cfg(test)]
-mod trail_text;

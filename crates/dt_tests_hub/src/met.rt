@@ -1,8 +1,9 @@
 //! A session and a processor that meet.
-use crate::calls::{Play, both, fired, meets, opened, run, says};
-use crate::paths::{DONE, ENABLE, ENABLED, GO, ONE_RECORD, SNAP, STOP, tracing};
-use crate::shared_row::{Heard, Sight, shares};
+use crate::calls::{Play, both, opened, run, says};
+use crate::paths::{ONE_RECORD, SNAP, tracing};
 use dt_hub::{CpuSeat, Fired, Hub, HubSite, NoGate, Offered, Session};
+use dt_hub_calls::texts::{DONE, ENABLE, ENABLED, GO, STOP};
+use dt_hub_calls::{LifeHeard, Sight, fired, meet_heard};
 use std::alloc::{AllocError, Global};
 use std::process::Abort;
 use std::sync::Wait;
@@ -43,7 +44,7 @@ pub(crate) const GOES: Sight = Sight {
 #[derive(Drop)]
 pub(crate) struct Firing<J: HubSite> {
     pub(crate) token: CpuSeat<J>,
-    heard: Heard,
+    heard: LifeHeard,
     /// Whether the session has enabled the other probe.
     pub(crate) wants_writes: bool,
 }
@@ -51,7 +52,7 @@ pub(crate) struct Firing<J: HubSite> {
 impl<J: HubSite> Firing<J> {
     /// A processor that fired nothing.
     pub(crate) fn new(alloc: Global, token: CpuSeat<J>, session: &Session<J>) -> Firing<J> {
-        let heard = Heard::new(alloc, session);
+        let heard = LifeHeard::new(alloc, session);
         Firing {
             token,
             heard,
@@ -97,23 +98,6 @@ pub(crate) fn comes_to<J: HubSite, R: Wait + Abort>(
 }
 
 /// A session and a processor meet. The session then knows so many items, which are all, and the processor's firings stand with these in one row.
-pub(crate) fn meet_heard<J: HubSite, R: Wait + Abort>(
-    rt: &R,
-    alloc: Global,
-    hub: &Hub<J>,
-    session: &mut Session<J>,
-    token: &mut CpuSeat<J>,
-    heard: &mut Heard,
-    sight: Sight,
-) -> Result<u64, AllocError> {
-    meets(rt, hub, session, token);
-    let count = shares(rt, alloc, session, token, heard, sight)?;
-    assert_eq!(rt; hub.seen(session), count);
-    heard.learns(count);
-    Ok(count)
-}
-
-/// The same, of a processor with what it was answered.
 pub(crate) fn meet<J: HubSite, R: Wait + Abort>(
     rt: &R,
     alloc: Global,
@@ -123,7 +107,8 @@ pub(crate) fn meet<J: HubSite, R: Wait + Abort>(
     sight: Sight,
 ) -> Result<u64, AllocError> {
     let Firing { token, heard, .. } = firing;
-    meet_heard(rt, alloc, hub, session, token, heard, sight)
+    let met = meet_heard(rt, alloc, hub, session, token, heard, sight)?;
+    Ok(met.expect(rt, "no row in common"))
 }
 
 /// A processor is told what a session knows, which are so many items.

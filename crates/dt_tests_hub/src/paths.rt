@@ -1,29 +1,13 @@
 //! The first path, with and without an early look, and what ends a script.
-use crate::calls::{Play, both, fired, only_at, opened, run, says};
+use crate::calls::{Play, both, only_at, opened, run, says};
 use dt_chain::Seat;
 use dt_hub::{CpuSeat, Fired, Hub, HubSite, Looked, NoGate, Offered, Session};
+use dt_hub_calls::fired;
+use dt_hub_calls::texts::{DONE, ENABLE, ENABLED, GO, MACHINE, STOP};
 use std::alloc::Global;
 use std::process::Abort;
 use std::sync::Wait;
 use std::test::Fail;
-
-/// One system call is made, by a shell.
-pub(crate) const MACHINE: &str = r#"{"cpus":2,
-"accounts":[{"name":"root","uid":0,"privs":["dtrace_kernel"]},{"name":"ann","uid":501,"privs":["dtrace_user"]},
-{"name":"joe","uid":501,"privs":["proc_owner"]}],
-"processes":[{"pid":100,"uid":501,"execname":"sh"},{"pid":200,"uid":0,"execname":"cron"}],
-"probes":["syscall::read:entry","profile:::tick-1sec","fbt:genunix:kmem_alloc:entry"],
-"scripts":[[{"probe":3,"pid":100}],[{"probe":3,"pid":200}]]}"#;
-
-pub(crate) const ENABLE: &str = r#"{"cmd":"enable","text":"syscall::read:entry{}"}"#;
-
-pub(crate) const ENABLED: &str = "{\"count\":1,\"first\":1,\"ok\":true}\n";
-
-pub(crate) const GO: &str = r#"{"cmd":"go"}"#;
-
-pub(crate) const STOP: &str = r#"{"cmd":"stop"}"#;
-
-pub(crate) const DONE: &str = "{\"ok\":true}\n";
 
 pub(crate) const SNAP: &str = r#"{"cmd":"snap","cpu":0}"#;
 

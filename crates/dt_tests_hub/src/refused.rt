@@ -1,12 +1,12 @@
 //! What was published goes, though its `go` was refused for memory.
-use crate::calls::{Play, answered, both, opened, run, says};
+use crate::calls::{Play, both, opened, run, says};
 use crate::endings::CLOSE;
-use crate::meeting::ENABLE_WRITES;
 use crate::met;
 use crate::met::{Firing, MANY, comes, comes_to, meet};
-use crate::paths::{DONE, ENABLE, ENABLED, GO, MACHINE, STOP, looks};
-use crate::shared_row::Sight;
+use crate::paths::looks;
 use dt_hub::{CpuSeat, Hub, HubSite, LineAnswer, Offered, Session};
+use dt_hub_calls::texts::{DONE, ENABLE, ENABLE_WRITES, ENABLED, GO, MACHINE, STOP};
+use dt_hub_calls::{Sight, answered};
 use std::alloc::{AllocError, Global};
 use std::process::Abort;
 use std::sync::Wait;

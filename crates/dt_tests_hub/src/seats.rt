@@ -1,8 +1,10 @@
 //! As many sessions as there are seats, and one too many.
-use crate::calls::{Play, at_seat, both, fired, run};
-use crate::paths::{MACHINE, tracing};
+use crate::calls::{Play, both, run};
+use crate::paths::tracing;
 use dt_chain::SEATS;
 use dt_hub::{CpuSeat, Fired, Hub, HubSite, NoGate, Offered, OpenFault};
+use dt_hub_calls::texts::MACHINE;
+use dt_hub_calls::{at_seat, fired};
 use std::alloc::Global;
 use std::process::Abort;
 use std::sync::Wait;

@@ -1,7 +1,9 @@
 //! A processor that is told of a session.
-use crate::calls::{Play, both, fired, opened, run, says};
-use crate::paths::{DONE, ENABLE, ENABLED, GO, MACHINE, ONE_RECORD, SNAP, keeps_first};
+use crate::calls::{Play, both, opened, run, says};
+use crate::paths::{ONE_RECORD, SNAP, keeps_first};
 use dt_hub::{CpuSeat, Fired, Hub, HubSite, NoGate};
+use dt_hub_calls::fired;
+use dt_hub_calls::texts::{DONE, ENABLE, ENABLED, GO, MACHINE};
 use std::alloc::Global;
 use std::process::Abort;
 use std::sync::Wait;

@@ -1,0 +1,1 @@
+-- The calls need no lemmas.

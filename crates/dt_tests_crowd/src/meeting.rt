@@ -1,0 +1,88 @@
+//! Two processors that really run at once.
+use crate::calls::{both, opened, says, tracing};
+use crate::flag::Flag;
+use crate::scenes::{Scene, run};
+use dt_hub::{CpuSeat, Fired, Gate, Hub, HubSite, Moment, Offered};
+use dt_hub_calls::texts::{DONE, ENABLE_WRITES, ENABLED, GO};
+use dt_hub_calls::{at_seat, fired};
+use std::alloc::Global;
+use std::process::Abort;
+use std::sync::Wait;
+use std::test::Fail;
+use std::thread::{Threads, join};
+use std::time::Clock;
+
+/// Each processor fires another probe.
+const MACHINE: &str = r#"{"cpus":2,
+"accounts":[{"name":"root","uid":0,"privs":["dtrace_kernel"]}],
+"processes":[{"pid":100,"uid":501,"execname":"sh"}],
+"probes":["syscall::read:entry","syscall::write:entry"],
+"scripts":[[{"probe":3,"pid":100}],[{"probe":4,"pid":100}]]}"#;
+
+/// Processor 0 has the lock of its seat until processor 1 has let go of another's.
+#[derive(Drop)]
+struct Meeting<'a, R: Clock + Abort> {
+    rt: &'a R,
+    locked: Flag,
+    passed: Flag,
+}
+
+impl<R: Clock + Abort> Gate for Meeting<'_, R> {
+    fn at(&self, cpu: u32, _seat: u32, moment: Moment) {
+        match (cpu, moment) {
+            (0, Moment::Locked) => {
+                self.locked.raise();
+                self.passed.wait(self.rt);
+            }
+            (1, Moment::Before) => self.locked.wait(self.rt),
+            (1, Moment::After) => self.passed.raise(),
+            _ => {}
+        }
+    }
+}
+
+/// Both processors fire, each on a thread of its own.
+fn both_fire<J: HubSite + Send + Sync, R: Threads + Wait + Abort + Clock + Sync>(
+    rt: &R,
+    hub: &Hub<J>,
+    one: &mut CpuSeat<J>,
+    other: &mut CpuSeat<J>,
+    gate: &Meeting<R>,
+) -> (Fired, Fired) {
+    join(
+        rt,
+        || fired(rt, hub, one, gate),
+        || fired(rt, hub, other, gate),
+    )
+}
+
+/// Two sessions, and two processors on threads of their own, each of which fires for one of them.
+pub(crate) fn plays<J: HubSite + Send + Sync, R: Threads + Wait + Abort + Clock + Sync>(
+    rt: &R,
+    alloc: Global,
+    hub: &Hub<J>,
+    tokens: Vec<CpuSeat<J>>,
+) -> Result<(), Fail> {
+    let (mut one, mut other) = both(rt, tokens)?;
+    let first = tracing(rt, alloc, hub, "root");
+    let mut second = opened(rt, alloc, hub, "root");
+    says(rt, alloc, hub, &mut second, ENABLE_WRITES, ENABLED);
+    says(rt, alloc, hub, &mut second, GO, DONE);
+    let gate = Meeting {
+        rt,
+        locked: Flag::new(),
+        passed: Flag::new(),
+    };
+    let came = both_fire(rt, hub, &mut one, &mut other, &gate);
+    assert_eq!(rt; came, (Fired::At(0), Fired::At(0)));
+    assert_eq!(rt; at_seat(&one, 0), Offered::Kept);
+    assert_eq!(rt; at_seat(&other, 1), Offered::Kept);
+    hub.close(rt, first);
+    hub.close(rt, second);
+    Ok(())
+}
+
+#[test]
+fn two_processors_meet_at_the_gate(rt: HostRuntime) -> Result<(), Fail> {
+    run(&rt, rt.alloc(), MACHINE, Scene::Meeting)
+}
