@@ -265,7 +265,9 @@ impl RowJudge {
         self.places = self.places.wrapping_add(1);
         self.wants(answer.came != Offered::Gone, RowFault::Gone);
         self.knows = self.knows.max(answer.knew);
-        self.wants(self.items.len() as u64 >= self.knows, RowFault::BeforeKnown);
+        let count = self.items.len() as u64;
+        let is_after_known = count >= self.knows;
+        self.wants(is_after_known, RowFault::BeforeKnown);
         let is_seen = self.walk.sees(item, answer.is_wanted);
         let is_kept = answer.came == Offered::Kept;
         self.wants(is_seen == is_kept, RowFault::NotAsKept);
@@ -274,7 +276,8 @@ impl RowJudge {
             self.knows = self.items.len() as u64;
         }
         if let Offered::Unseen { known } = answer.came {
-            self.wants(self.items.len() as u64 == known, RowFault::NotAsTold);
+            let count = self.items.len() as u64;
+            self.wants(count == known, RowFault::NotAsTold);
             self.knows = known;
         }
         Ok(())
@@ -301,7 +304,8 @@ fn fault_of(
     for item in row {
         match (*item, heard.places.get(judge.places as usize)) {
             (KnownItem::Fired { cpu: of, place }, Some(answer)) if of == cpu => {
-                judge.wants(place == judge.places, RowFault::OutOfOrder);
+                let is_next = place == judge.places;
+                judge.wants(is_next, RowFault::OutOfOrder);
                 judge.has_own(*item, *answer)?;
             }
             _ => judge.has_other(*item)?,
