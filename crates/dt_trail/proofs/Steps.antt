@@ -9,7 +9,7 @@ use Rattle.dt_trail.specs.declared.rule.Extent.{Extent}
 use Rattle.dt_trail.specs.declared.rule.TrailView.{TrailView}
 use Rattle.dt_trail.specs.Items.{TrailItem, code, IsReal, AllReal, own, code_at, StartsWith, longer, IsWordAt}
 use Rattle.dt_trail.specs.Blocks.{flat, before, BlockLiesAt}
-use Rattle.dt_trail.specs.Rule.{NoSlot, FitsRow, Kept, Turn, appender, through, door_at, pushed, reviewed, FindsItem, HasCompared, TurnReads, HasLearnt, learnt, IsLast, IsTurned, IsSeen, IsBack, IsFoundAgain}
+use Rattle.dt_trail.specs.Rule.{NoSlot, FitsRow, Kept, Turn, appender, through, door_at, pushed, reviewed, FindsItem, HasCompared, TurnReads, HasLearnt, learnt, IsLast, IsTurned, IsSeen, IsBack, IsFoundAgain, IsPeeked}
 use Rattle.dt_trail.proofs.Begins.{starts_length, starts_longer, own_rest, own_longer, not_own, All-at, code_some, code_behind, stands_begun}
 use Rattle.dt_trail.proofs.Flats.{before_first, before_next, before_all, before_le}
 use Rattle.dt_trail.proofs.Fitting.{off, root_is, in_root, in_block, word_is, quiet, quiet_link, fits_again, legal_begun}
@@ -193,6 +193,16 @@ module _ {K : Type 0} (lawful : K → List TrailItem → Type 0) (root : Ptr) (a
         in_block lawful root acct s h m.view.door i st near,
         λ _. quiet lawful root acct s h (suc m.view.door.block) i id m m.view (IsFoundAgain (step (suc m.view.door.block) m.view.door.link.ptr i 0 0) m word) (fits_again lawful root acct s h id m.view f)
             (refl, subst (IsWordAt m.view.knows k) (sym found_is) (stands_begun m.view.knows f.begins.0 k known (subst AllReal f.begins.1 h.shows.real))),
+      )
+
+  -- a read of a cell of the door's block, whatever it has
+  pub peeks : (id : ℕ) (m : Turn K) (i : ℕ) → 0 < m.view.door.len → i < m.view.door.len
+      → Allows H id m (suc m.view.door.block) m.view.door.link.ptr i (λ n. n) (IsPeeked (step (suc m.view.door.block) m.view.door.link.ptr i 0 0) m)
+  peeks id m i pos near s h at =
+      let f = h.each id m.view at in
+      let word = word_of s.rows (suc m.view.door.block) i in (
+        in_block lawful root acct s h m.view.door i (f.stands pos) near,
+        λ _. quiet lawful root acct s h (suc m.view.door.block) i id m m.view (IsPeeked (step (suc m.view.door.block) m.view.door.link.ptr i 0 0) m word) (fits_again lawful root acct s h id m.view f) refl,
       )
 
   -- a read of the root: where the block lies

@@ -9,7 +9,7 @@ use Rattle.dt_trail.specs.declared.rule.Extent.{Extent}
 use Rattle.dt_trail.specs.declared.rule.TrailView.{TrailView}
 use Rattle.dt_trail.specs.Items.{TrailItem, whose, code, IsReal, own, StartsWith}
 use Rattle.dt_trail.specs.Insides.{IsDoor}
-use Rattle.dt_trail.specs.Rule.{NoSlot, Kept, Turn, note, appender, owner, maker, nobody, extent_of, with_right, without_right, right_of, maker_after, made, row_ended, IsSet, HasCompared, TurnReads, HasLearnt, IsLast, IsTurned, IsSeen, IsBack, IsFoundAgain, IsPlanned, IsLaid, reviewed, through, door_at, claim, claim_of, informed}
+use Rattle.dt_trail.specs.Rule.{NoSlot, Kept, Turn, note, appender, owner, maker, nobody, extent_of, with_right, without_right, right_of, maker_after, made, row_ended, IsSet, HasCompared, TurnReads, HasLearnt, IsLast, IsTurned, IsSeen, IsBack, IsFoundAgain, IsPeeked, IsPlanned, IsLaid, reviewed, through, door_at, claim, claim_of, informed}
 use Rattle.dt_trail.proofs.Steps as steps
 use Rattle.dt_trail.proofs.Grows as grows
 use Rattle.dt_trail.proofs.Widens as widens
@@ -43,6 +43,13 @@ module _ {K : Type 0} (lawful : K → List TrailItem → Type 0) (key about : Ab
       → Allows H id m (z.block + 1) z.link.ptr (k - z.from) (λ n. n) (IsFoundAgain (step (z.block + 1) z.link.ptr (k - z.from) 0 0) m)) e
       (λ i l h. subst (λ (b : ℕ). Allows H id m b m.view.door.link.ptr (k - m.view.door.from) (λ n. n) (IsFoundAgain (step b m.view.door.link.ptr (k - m.view.door.from) 0 0) m)) (let o : suc m.view.door.block ≡ m.view.door.block + 1 = omega arith in o)
       (steps.reads_again lawful key.root.ptr key.account id m (k - m.view.door.from) i.some (let x = known in omega arith) (omega arith))) is low high
+
+  pub peeks_as : (id : ℕ) (m : Turn K) (d : Door) (i : ℕ) → m.view.door ≡ d → IsDoor d → i < d.len
+      → Allows H id m (d.block + 1) d.link.ptr i (λ n. n) (IsPeeked (step (d.block + 1) d.link.ptr i 0 0) m)
+  peeks_as id m d i e is near = subst (λ (z : Door). IsDoor z → i < z.len
+      → Allows H id m (z.block + 1) z.link.ptr i (λ n. n) (IsPeeked (step (z.block + 1) z.link.ptr i 0 0) m)) e
+      (λ w h. subst (λ (b : ℕ). Allows H id m b m.view.door.link.ptr i (λ n. n) (IsPeeked (step b m.view.door.link.ptr i 0 0) m)) (let o : suc m.view.door.block ≡ m.view.door.block + 1 = omega arith in o)
+      (steps.peeks lawful key.root.ptr key.account id m i w.some h)) is near
 
   pub sees_as : (id : ℕ) (m : Turn K) (i : ℕ) → 0 < m.view.door.len → i ≡ m.view.door.block → i < widenings + 1 → AllowsLink H id m 0 about.root.ptr i (λ q. q) (IsSeen 0 i m)
   sees_as id m i pos ei near = subst (λ (p : Ptr). AllowsLink H id m 0 p i (λ q. q) (IsSeen 0 i m)) root_is (steps.sees lawful key.root.ptr key.account id m i pos ei (omega arith))

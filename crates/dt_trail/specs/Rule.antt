@@ -187,6 +187,10 @@ module _ {K : Type 0} where
   abbrev pub IsFoundAgain : Step → Turn K → ℕ → Turn K → Type 0
   IsFoundAgain st m found n = (n ≡ m) × IsWordAt m.view.knows (m.view.door.from + st.index) found
 
+  -- whatever the word is, the seat stays as it is
+  abbrev pub IsPeeked : Step → Turn K → ℕ → Turn K → Type 0
+  IsPeeked st m found n = n ≡ m
+
   abbrev pub planned_at : TrailView K → Ptr → TrailView K
   planned_at v p = viewed v.account v.live v.owns v.makes v.note v.knows v.had v.door (extent_of v.extent.blocks v.extent.cells true p)
 

@@ -17,3 +17,11 @@ pub const BLOCK_CELLS: u64 = 65_536;
 
 /// How many cells a session's longest trail has: a history of 1,048,576 firings, and 1,024 lines.
 pub const TRAIL_CELLS_MAX: u64 = 1_049_600;
+
+/// So many cells are read ahead at once, each time that so many were set: they lie on [`AHEAD_LINES`] cache lines of 64 bytes. No contract speaks of it.
+pub(crate) const AHEAD_CELLS: u64 = AHEAD_LINES * LINE_CELLS;
+
+pub(crate) const AHEAD_LINES: u64 = 16;
+
+/// How many cells lie on a cache line.
+pub(crate) const LINE_CELLS: u64 = 4;

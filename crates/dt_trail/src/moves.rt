@@ -12,9 +12,10 @@ use crate::door::Door;
 use crate::inner::{Inner, ROOT, RowSeat};
 use crate::item::Item;
 use crate::law::Law;
+use crate::limits::{AHEAD_CELLS, AHEAD_LINES, LINE_CELLS};
 use crate::rule::{
-    ComparesItems, Lays, Learns, Lends, Picked, Plans, ReadsCell, SeesItems, Sets, TellsItems,
-    Turns,
+    ComparesItems, Lays, Learns, Lends, Peeks, Picked, Plans, ReadsCell, SeesItems, Sets,
+    TellsItems, Turns,
 };
 use atomic_blocks::rows::{Link, Loose};
 use std::alloc::Global;
@@ -129,6 +130,49 @@ pub fn show_all<K, L: Law<K>>(inner: &Inner<K, L>, seat: &mut RowSeat<K>, right:
         .rows
         .load::<ComparesItems>(seat, ROOT, inner.about.root, 0);
     hand_back(inner, seat, right);
+}
+
+// Reads a cell of the door's block, whatever it has.
+fn peek<K, L: Law<K>>(inner: &Inner<K, L>, seat: &mut RowSeat<K>, door: Door, place: u64)
+    requires seat { OfRow inner.now seat.old }
+    requires door { (seat.old.me.view.door ≡ door) × IsDoor door × (place < door.len) }
+    ensures same { SameSeat seat.old seat.new }
+    ensures view { seat.new.me ≡ seat.old.me }
+{
+    inner
+        .rows
+        .load::<Peeks>(seat, door.block + 1, door.link, place as usize);
+}
+
+// Reads a cell of each line that the next cells of the door's block lie on.
+#[inline(never)]
+fn read_lines<K, L: Law<K>>(inner: &Inner<K, L>, seat: &mut RowSeat<K>, door: Door, first: u64)
+    requires seat { OfRow inner.now seat.old }
+    requires door { (seat.old.me.view.door ≡ door) × IsDoor door × (first < door.len) }
+    ensures same { SameSeat seat.old seat.new }
+    ensures view { seat.new.me ≡ seat.old.me }
+{
+    'lines: for line in 0..AHEAD_LINES {
+        let place = first + line * LINE_CELLS;
+        if place < door.len {
+            peek(inner, seat, door, place);
+        }
+    }
+}
+
+/// Reads the cells that are set next, once for each [`AHEAD_CELLS`] of them. Nothing is made of them: but a cell is set by an exchange, which waits for its line to come,
+/// and those of many rows don't stay near a processor. Here many lines are asked for at once, and come in the time of one.
+#[inline(always)]
+pub fn read_ahead<K, L: Law<K>>(inner: &Inner<K, L>, seat: &mut RowSeat<K>, door: Door, count: u64)
+    requires seat { OfRow inner.now seat.old }
+    requires door { (seat.old.me.view.door ≡ door) × IsDoor door }
+    requires at { (door.from ≤ count) × (count < door.from + door.len) }
+    ensures same { SameSeat seat.old seat.new }
+    ensures view { seat.new.me ≡ seat.old.me }
+{
+    if count % AHEAD_CELLS == 0 {
+        read_lines(inner, seat, door, count - door.from);
+    }
 }
 
 /// Moves the owner's door to the block of the first empty cell.

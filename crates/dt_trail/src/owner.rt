@@ -10,7 +10,7 @@ use crate::door::Door;
 use crate::inner::{Inner, RowSeat};
 use crate::item::Item;
 use crate::law::Law;
-use crate::moves::{arrive, lay_in, set_next, show_all, tell};
+use crate::moves::{arrive, lay_in, read_ahead, set_next, show_all, tell};
 use crate::note::TrailNote;
 use crate::storage;
 use crate::told::Told;
@@ -109,6 +109,7 @@ impl<K, L: Law<K>> TrailOwner<K, L> {
     ///
     /// It waits for nobody, takes no memory and can't fail. There has to be an empty cell. The longer row has to be lawful if what the note knows begins the row and
     /// the row has no further item of the note's. That this is so the rule says at the step, so the note needn't meet the owner before.
+    #[inline(always)]
     pub fn append(&mut self, note: &mut TrailNote<K, L>, item: &Item)
         requires row { self.old.row ≡ note.old.row }
         requires room { length self.old.knows < self.old.cells }
@@ -121,6 +122,7 @@ impl<K, L: Law<K>> TrailOwner<K, L> {
         let count = self.count;
         let inner: &Inner<K, L> = &self.cells;
         arrive(inner, &mut self.seat, &mut self.door, count);
+        read_ahead(inner, &mut self.seat, self.door, count);
         set_next::<Brand, K, L>(
             inner,
             &mut note.seat,

@@ -144,6 +144,15 @@ impl<K> Play<(), TrailView<K>> for ReadsAgain {
     ghost then = { IsFoundAgain };
 }
 
+// A cell of the door's block is read, and its word is nothing to the seat.
+pub struct Peeks;
+
+impl<K> Play<(), TrailView<K>> for Peeks {
+    ghost use Rattle.dt_trail.specs.Rule.{IsPeeked};
+
+    ghost then = { IsPeeked };
+}
+
 // The place of the next block is written into the root.
 pub struct Plans;
 

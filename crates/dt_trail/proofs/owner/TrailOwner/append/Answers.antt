@@ -20,8 +20,9 @@ invariant_of-self g c =
     let row : row_of (arc_value c.note.inside.cells) ≡ row_of inner = ap (λ (k : Noted g.row.K.Denot). k.row) c.note.view_is ∙ (sym c.requires.row ∙ sym (ap (λ (k : Known g.row.K.Denot). k.row) c.self.view_is)) in
     let acc : c.note.inside.seat.me.view.account ≡ Some inner.about.account = ap (λ (m : Turn g.row.K.Denot). m.view.account) n.mine ∙ ap (λ (r : Named g.row.K.Denot). Some r.account) row in
     let x = c.set_next.ensures in let a = c.arrive.ensures in
-    let extent : c.arrive.new.seat.me.view.extent ≡ extent_of (c.self.inside.widened + 1) c.self.inside.width false null_ptr = ap (λ (m : Turn g.row.K.Denot). m.view.extent) a.view ∙ ap (λ (m : Turn g.row.K.Denot). m.view.extent) t in
-    let knows : c.arrive.new.seat.me.view.knows ≡ ks = ap (λ (m : Turn g.row.K.Denot). m.view.knows) a.view ∙ ap (λ (m : Turn g.row.K.Denot). m.view.knows) t in
+    let same : c.read_ahead.new.seat.me ≡ c.arrive.new.seat.me = c.read_ahead.ensures.view in
+    let extent : c.read_ahead.new.seat.me.view.extent ≡ extent_of (c.self.inside.widened + 1) c.self.inside.width false null_ptr = ap (λ (m : Turn g.row.K.Denot). m.view.extent) same ∙ ap (λ (m : Turn g.row.K.Denot). m.view.extent) a.view ∙ ap (λ (m : Turn g.row.K.Denot). m.view.extent) t in
+    let knows : c.read_ahead.new.seat.me.view.knows ≡ ks = ap (λ (m : Turn g.row.K.Denot). m.view.knows) same ∙ ap (λ (m : Turn g.row.K.Denot). m.view.knows) a.view ∙ ap (λ (m : Turn g.row.K.Denot). m.view.knows) t in
     let all : List TrailItem = ks ++ c.args.item.now ∷ [] in
     let room : length ks < c.self.inside.width = subst (λ (k : Known g.row.K.Denot). length k.knows < k.cells) (sym c.self.view_is) c.requires.room in
     owning inner c.set_next.new.right c.arrive.new.door all (c.self.inside.count + 1) c.self.inside.widened c.self.inside.width
