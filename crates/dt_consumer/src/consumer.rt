@@ -4,6 +4,7 @@ ghost use Rattle.std.specs.Option.{ForSome};
 
 use crate::draft::{Change, Draft};
 use crate::programs::Programs;
+use crate::scratch::Scratch;
 use crate::tracing::Tracing;
 use dt_aggstore::Aggregation;
 use dt_cred::Account;
@@ -17,9 +18,9 @@ use std::alloc::{AllocError, Global};
 #[derive(Drop)]
 pub struct Consumer {
     pub(crate) account: Account,
-    pub(crate) options: Options,
     pub(crate) programs: Programs,
     pub(crate) tracing: Option<Tracing>,
+    pub(crate) options: Options,
     /// Whether the session was closed before tracing began.
     pub(crate) closed: bool,
     pub(crate) lines: u32,
@@ -108,7 +109,7 @@ impl Consumer {
         ensures drafts { (draft : Draft) → CanApply self.old draft → CanApply self.new draft }
     {
         match machine.context(firing) {
-            Some(context) => self.offer_context(machine, &context),
+            Some(context) => self.offer_context(machine, &context, &mut Scratch::new()),
             // a foreign firing changes nothing for its consumer
             None => false,
         }
@@ -116,7 +117,12 @@ impl Consumer {
 
     /// The same for a firing whose probe and process were looked up: so who offers a firing to many consumers looks them up
     /// once. The context is one of the machine's.
-    pub fn offer_context(&mut self, machine: &Machine, context: &Context) -> bool
+    pub fn offer_context(
+        &mut self,
+        machine: &Machine,
+        context: &Context,
+        scratch: &mut Scratch,
+    ) -> bool
         ensures sees { (account : Account) (life : List Item)
             → StandsFor account machine.now.registry self.old life → IsContext machine.now.registry context.now
             → (IsTrue result ↔ Sees account machine.now.registry life context.now.firing.now) }
@@ -128,13 +134,18 @@ impl Consumer {
         ensures drafts { (draft : Draft) → CanApply self.old draft → CanApply self.new draft }
     {
         // a firing that its account isn't shown changes nothing for a consumer
-        context.is_shown(&self.account) && self.offer_shown(machine, context)
+        context.is_shown(&self.account) && self.offer_shown(machine, context, scratch)
     }
 
     /// The same for a firing that the consumer's account is shown, which is all the work of an offer: who looked whom to offer the
     /// firing to has asked for that, so it is asked once.
     #[inline(always)]
-    pub fn offer_shown(&mut self, machine: &Machine, context: &Context) -> bool
+    pub fn offer_shown(
+        &mut self,
+        machine: &Machine,
+        context: &Context,
+        scratch: &mut Scratch,
+    ) -> bool
         ensures sees { (account : Account) (life : List Item)
             → StandsFor account machine.now.registry self.old life → IsContext machine.now.registry context.now
             → IsShown account machine.now.registry context.now.firing.now
@@ -155,7 +166,7 @@ impl Consumer {
         if !tracing.wants(firing.cpu, firing.probe) {
             return false;
         }
-        tracing.see(&self.account, machine, &self.programs, context);
+        tracing.see(scratch, &self.account, machine, &self.programs, context);
         true
     }
 

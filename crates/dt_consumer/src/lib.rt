@@ -17,6 +17,7 @@ mod outline;
 mod processor;
 mod processors;
 mod programs;
+mod scratch;
 mod tracing;
 mod uses;
 
@@ -26,3 +27,4 @@ pub use dt_life::{
     AGGSIZE, AGGSIZE_MIN, BUFFER_SIZE, Command, End, HISTORY, HISTORY_MAX, LINES_MAX, OptionValue,
     Phase, Refusal, Reply, one_reply, some_reply,
 };
+pub use scratch::Scratch;

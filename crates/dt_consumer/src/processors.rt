@@ -8,9 +8,9 @@ use crate::ecb_lists::EcbList;
 use crate::enabled::Enabled;
 use crate::processor::Processor;
 use crate::programs::Programs;
+use crate::scratch::Scratch;
 use crate::uses::Uses;
-use arrayvec::ArrayVec;
-use dt_aggstore::{AggStore, Aggregation, Key};
+use dt_aggstore::{AggStore, Aggregation};
 use dt_cred::Account;
 use dt_ecb::Ecb;
 use dt_expr::{EvalFault, Scene};
@@ -18,25 +18,18 @@ use dt_lang::Clause;
 use dt_life::{Context, END, Options, empty_stores, own_firing, own_process, scene_at};
 use dt_locals::Locals;
 use dt_machine::Machine;
-use dt_record::{RECORD_MAX, Taken, give_only, record_only};
+use dt_record::{Taken, give_only, record_only};
 use dt_speculation::{SpecPut, Specs, drops_told};
 use std::alloc::{AllocError, Global};
 
-/// What a consumer has of its processors from its `go` on, each with its store of aggregations; its thread-local variables and its
-/// speculations, which are those of all processors; and the places in which what a clause leaves is made: a bare record has its own, and
-/// the key of what an aggregation is given.
-///
-/// What a firing that only records needs lies together, at the end: the large place before it, for what other clauses leave, is then not
-/// between.
+/// What a consumer has of its processors from its `go` on, each with its store of aggregations; and its thread-local variables and its
+/// speculations, which are those of all processors.
 #[derive(Drop)]
 pub(crate) struct Processors {
+    pub(crate) all: Vec<Processor>,
     pub(crate) stores: Vec<AggStore>,
     pub(crate) locals: Locals,
     pub(crate) specs: Specs,
-    left: Taken,
-    key: Key,
-    pub(crate) all: Vec<Processor>,
-    record: ArrayVec<u8, RECORD_MAX>,
     ghost some: { 1 ≤ vec_len all },
     ghost each: { vec_len stores ≡ vec_len all },
     ghost few: { vec_len stores ≤ STORES_MAX },
@@ -103,11 +96,6 @@ impl Processors {
             stores: empty_stores(alloc, options.aggsize, cpus)?,
             locals: Locals::new(alloc, options.dynvarsize)?,
             specs: Specs::new(alloc, options.nspec, options.specsize, cpus as usize)?,
-            left: Taken::new(),
-            key: Key {
-                parts: ArrayVec::new(),
-            },
-            record: ArrayVec::new(),
         })
     }
 
@@ -137,6 +125,7 @@ impl Processors {
     #[inline(always)]
     pub(crate) fn take(
         &mut self,
+        scratch: &mut Scratch,
         enabled: &Enabled<'_>,
         list: &EcbList,
         context: &Context,
@@ -162,7 +151,7 @@ impl Processors {
             → result ≡ first_exit (takings_by false s.options steps (form_of_context context.now) s.clauses list.now.ecbs.items) }
     {
         for ecb in &list.ecbs {
-            let exit = self.take_one(enabled, *ecb, context, false);
+            let exit = self.take_one(scratch, enabled, *ecb, context, false);
             // an exit ends tracing at this firing: the later ECBs of the probe aren't taken
             if exit.is_some() {
                 return exit;
@@ -172,7 +161,13 @@ impl Processors {
     }
 
     /// Takes END's ECBs, in order of EPID: an exit is passed over. It takes no memory.
-    fn take_end(&mut self, enabled: &Enabled<'_>, list: &EcbList, context: &Context)
+    fn take_end(
+        &mut self,
+        scratch: &mut Scratch,
+        enabled: &Enabled<'_>,
+        list: &EcbList,
+        context: &Context,
+    )
         requires there { context.now.firing.now.cpu < vec_len self.old.all }
         requires placed { All (λ ecb. ecb.clause < length enabled.now.clauses.now) list.now.ecbs.items }
         requires counts { All (AtMost (DROPS_LIMIT - COMES_MAX)) self.old.all.items }
@@ -188,7 +183,7 @@ impl Processors {
             (takings_by true s.options steps (form_of_context context.now) s.clauses list.now.ecbs.items)) self.new }
     {
         for ecb in &list.ecbs {
-            let _exit = self.take_one(enabled, *ecb, context, true);
+            let _exit = self.take_one(scratch, enabled, *ecb, context, true);
         }
     }
 
@@ -233,7 +228,8 @@ impl Processors {
             process: &process,
             firing: &firing,
         };
-        self.take_end(&enabled, list, &context);
+        let mut scratch = Scratch::new();
+        self.take_end(&mut scratch, &enabled, list, &context);
     }
 
     /// Takes one ECB, and answers the status that it exits with, if it exits. A clause that does nothing but record, and one that does
@@ -241,6 +237,7 @@ impl Processors {
     #[inline(always)]
     fn take_one(
         &mut self,
+        scratch: &mut Scratch,
         enabled: &Enabled<'_>,
         ecb: Ecb,
         context: &Context,
@@ -266,15 +263,15 @@ impl Processors {
     {
         let outline = enabled.outlines[ecb.clause];
         if !outline.only_records && !outline.only_gives {
-            return self.take_whole(enabled, ecb, context, in_end);
+            return self.take_whole(scratch, enabled, ecb, context, in_end);
         }
         let clause = &enabled.clauses[ecb.clause];
         let scene = scene_at(context, ecb.epid);
         let cpu = context.firing.cpu as usize;
         if outline.only_records {
-            self.record_one(ecb.epid, clause, &scene, cpu, in_end);
+            self.record_one(scratch, ecb.epid, clause, &scene, cpu, in_end);
         } else {
-            self.give_one(clause, &enabled.uses[ecb.clause], &scene, cpu);
+            self.give_one(scratch, clause, &enabled.uses[ecb.clause], &scene, cpu);
         }
         None
     }
@@ -284,6 +281,7 @@ impl Processors {
     #[inline(always)]
     fn take_whole(
         &mut self,
+        scratch: &mut Scratch,
         enabled: &Enabled<'_>,
         ecb: Ecb,
         context: &Context,
@@ -312,7 +310,7 @@ impl Processors {
         let outline = enabled.outlines[ecb.clause];
         let scene = scene_at(context, ecb.epid);
         let dropped = self.locals.drops();
-        let taken = self.left.take_known(
+        let taken = scratch.left.take_known(
             ecb.epid,
             clause,
             outline.leaves_record,
@@ -324,14 +322,14 @@ impl Processors {
         self.all[cpu].count_dropped(self.locals.drops().saturating_sub(dropped));
         match taken {
             Ok(true) => {
-                self.put_record(cpu, in_end);
+                self.put_record(&scratch.left, cpu, in_end);
                 enabled.uses[ecb.clause].give(
                     &mut self.stores[cpu],
-                    &mut self.key,
-                    &self.left.values,
+                    &mut scratch.key,
+                    &scratch.left.values,
                 );
-                end_speculations(&mut self.specs, &mut self.all, &self.left.ends, in_end);
-                self.left.exit
+                end_speculations(&mut self.specs, &mut self.all, &scratch.left.ends, in_end);
+                scratch.left.exit
             }
             Ok(false) => None,
             Err(EvalFault::DivZero) => {
@@ -343,7 +341,15 @@ impl Processors {
 
     /// Takes a clause that does nothing but record: its record goes into the processor's buffer.
     #[inline(always)]
-    fn record_one(&mut self, epid: u32, clause: &Clause, scene: &Scene, cpu: usize, in_end: bool)
+    fn record_one(
+        &mut self,
+        scratch: &mut Scratch,
+        epid: u32,
+        clause: &Clause,
+        scene: &Scene,
+        cpu: usize,
+        in_end: bool,
+    )
         requires there { cpu < vec_len self.old.all }
         requires bare { only_records (form_of_clause clause.now).statements ≡ true }
         requires counts { All (AtMost (DROPS_LIMIT - 1)) self.old.all.items }
@@ -357,9 +363,9 @@ impl Processors {
             (changed_at tallies cpu (with_outcome in_end (taking epid (scene_of scene.now) past (form_of_clause clause.now)).outcome
             (tallies cpu))) self.new.all.items }
     {
-        match record_only(&mut self.record, epid, clause, scene, &self.locals) {
+        match record_only(&mut scratch.record, epid, clause, scene, &self.locals) {
             Ok(true) => {
-                let _put = self.all[cpu].buffer.put(&self.record, in_end);
+                let _put = self.all[cpu].buffer.put(&scratch.record, in_end);
             }
             Ok(false) => {}
             Err(EvalFault::DivZero) => self.all[cpu].errors += 1,
@@ -368,7 +374,14 @@ impl Processors {
 
     /// Takes a clause that does nothing but give to aggregations: its values go into the processor's store.
     #[inline(always)]
-    fn give_one(&mut self, clause: &Clause, uses: &Uses, scene: &Scene, cpu: usize)
+    fn give_one(
+        &mut self,
+        scratch: &mut Scratch,
+        clause: &Clause,
+        uses: &Uses,
+        scene: &Scene,
+        cpu: usize,
+    )
         requires there { cpu < vec_len self.old.all }
         requires bare { only_gives (form_of_clause clause.now).statements ≡ true }
         requires counts { All (AtMost (DROPS_LIMIT - 1)) self.old.all.items }
@@ -388,8 +401,12 @@ impl Processors {
             (changed_at tallies cpu (with_outcome in_end (taking epid (scene_of scene.now) past (form_of_clause clause.now)).outcome
             (tallies cpu))) self.new.all.items }
     {
-        match give_only(&mut self.left.values, clause, scene, &self.locals) {
-            Ok(true) => uses.give(&mut self.stores[cpu], &mut self.key, &self.left.values),
+        match give_only(&mut scratch.left.values, clause, scene, &self.locals) {
+            Ok(true) => uses.give(
+                &mut self.stores[cpu],
+                &mut scratch.key,
+                &scratch.left.values,
+            ),
             Ok(false) => {}
             Err(EvalFault::DivZero) => {
                 let processor = &mut self.all[cpu];
@@ -400,26 +417,25 @@ impl Processors {
 
     /// Puts the record that a clause left, if it left one, into a processor's buffer, or under the identifier that it is directed to.
     #[inline(always)]
-    fn put_record(&mut self, cpu: usize, in_end: bool)
+    fn put_record(&mut self, left: &Taken, cpu: usize, in_end: bool)
         requires there { cpu < vec_len self.old.all }
         requires counts { All (AtMost (DROPS_LIMIT - 1)) self.old.all.items }
         ensures len { vec_len self.new.all ≡ vec_len self.old.all }
         ensures stores { self.new.stores ≡ self.old.stores }
         ensures locals { self.new.locals ≡ self.old.locals }
-        ensures left { self.new.left ≡ self.old.left }
         ensures counts { (n : ℕ) → All (AtMost n) self.old.all.items → All (AtMost (n + 1)) self.new.all.items }
         ensures fails { fails_of self.new.specs ≡ fails_of self.old.specs }
         ensures specs { (past : SpecPast) → SpecsAt past self.old.specs
-            → SpecsAt (specs_then past (puts_in cpu (form_of_taken self.old.left))) self.new.specs }
+            → SpecsAt (specs_then past (puts_in cpu (form_of_taken left.now))) self.new.specs }
         ensures put { (past : SpecPast) (tallies : ℕ → Tally) → SpecsAt past self.old.specs
             → EndLast (tallies cpu).came in_end → AreTallied tallies self.old.all.items → AreTallied
-            (changed_at tallies cpu (with_left in_end cpu past (form_of_taken self.old.left) (tallies cpu))) self.new.all.items }
+            (changed_at tallies cpu (with_left in_end cpu past (form_of_taken left.now) (tallies cpu))) self.new.all.items }
     {
-        let Some(bytes) = &self.left.bytes else {
+        let Some(bytes) = &left.bytes else {
             return;
         };
         let processor = &mut self.all[cpu];
-        match self.left.spec {
+        match left.spec {
             None => {
                 let _put = processor.buffer.put(bytes, in_end);
             }

@@ -16,11 +16,11 @@ use std::alloc::{AllocError, Global};
 /// aggregations that they use. An ECB has the place of its clause among all of them.
 #[derive(Drop)]
 pub(crate) struct Programs {
-    pub(crate) clauses: Vec<Clause>,
-    /// Of each clause what is known before it is taken.
-    outlines: Vec<Outline>,
     pub(crate) ecbs: Vec<Ecb>,
     pub(crate) shapes: Shapes,
+    /// Of each clause what is known before it is taken.
+    outlines: Vec<Outline>,
+    pub(crate) clauses: Vec<Clause>,
     ghost room_for_clauses: { ECBS_MAX ≤ vec_capacity clauses },
     ghost room_for_outlines: { ECBS_MAX ≤ vec_capacity outlines },
     ghost room_for_ecbs: { ECBS_MAX ≤ vec_capacity ecbs },

@@ -11,6 +11,7 @@ use crate::ecb_lists::EcbList;
 use crate::enabled::Enabled;
 use crate::processors::Processors;
 use crate::programs::Programs;
+use crate::scratch::Scratch;
 use crate::uses::Uses;
 use dt_aggstore::Aggregation;
 use dt_cred::Account;
@@ -25,11 +26,11 @@ use std::alloc::{AllocError, Global};
 #[derive(Drop)]
 pub(crate) struct Tracing {
     pub(crate) lists: Vec<EcbList>,
-    pub(crate) uses: Vec<Uses>,
-    pub(crate) processors: Processors,
     pub(crate) history: u32,
     pub(crate) seen: u32,
     pub(crate) course: Course,
+    pub(crate) processors: Processors,
+    pub(crate) uses: Vec<Uses>,
     ghost own_lists: { END < vec_len lists },
     ghost placed: { All (ArePlaced (vec_len uses)) lists.items },
     ghost few: { history ≤ HISTORY_MAX },
@@ -128,7 +129,8 @@ impl Tracing {
             outlines: programs.outlines(),
             uses: &uses,
         };
-        let exit = processors.take(&enabled, &lists[BEGIN as usize], &context);
+        let mut scratch = Scratch::new();
+        let exit = processors.take(&mut scratch, &enabled, &lists[BEGIN as usize], &context);
         let tracing = Tracing {
             lists,
             uses,
@@ -181,6 +183,7 @@ impl Tracing {
     #[inline(always)]
     pub(crate) fn see(
         &mut self,
+        scratch: &mut Scratch,
         account: &Account,
         machine: &Machine,
         programs: &Programs,
@@ -204,7 +207,7 @@ impl Tracing {
             uses: &self.uses,
         };
         let list = &self.lists[context.firing.probe as usize];
-        let exit = self.processors.take(&enabled, list, context);
+        let exit = self.processors.take(scratch, &enabled, list, context);
         self.seen += 1;
         if let Some(end) = End::after(exit, self.seen, self.history) {
             self.course = Course::Over(Some(end));

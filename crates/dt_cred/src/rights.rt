@@ -64,13 +64,13 @@ pub fn admits(account: &Account, probe: &Probe, mode: Mode, process: &Process) -
     ensures table { IsTrue result ↔ Admits account.now probe.now.class mode process.now }
     ensures test { result ≡ spec.admits account.now probe.now.class mode process.now }
 {
-    match probe.class {
-        Class::Syscall => account.privs.dtrace_kernel || permits(account, process),
-        Class::Profile => {
-            account.privs.dtrace_kernel || (permits(account, process) && mode == Mode::User)
+    // whoever holds dtrace_kernel is shown every firing
+    account.privs.dtrace_kernel
+        || match probe.class {
+            Class::Syscall => permits(account, process),
+            Class::Profile => permits(account, process) && mode == Mode::User,
+            Class::Dtrace | Class::Pid(_) | Class::Other => true,
         }
-        Class::Dtrace | Class::Pid(_) | Class::Other => true,
-    }
 }
 
 /// Law: the table and its tests say the same.

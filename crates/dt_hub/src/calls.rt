@@ -1,7 +1,7 @@
 //! How a processor looks and fires.
 ghost use Rattle.dt_hub.specs.Firings.{ComesOfCall, ComesOfLook};
 
-use crate::cpu_seat::{CpuSeat, note_down};
+use crate::cpu_seat::{CpuSeat, note_down, read_ahead};
 use crate::firing::Fired;
 use crate::gate::Gate;
 use crate::hub::Hub;
@@ -35,6 +35,8 @@ impl<J: HubSite> Hub<J> {
         let Some(firing) = self.machine.firing(cpu_seat.cpu, cpu_seat.place) else {
             return Fired::End;
         };
+        let (cpu, place) = (cpu_seat.cpu, cpu_seat.place);
+        cpu_seat.ahead = read_ahead(&self.machine, cpu, place, cpu_seat.ahead);
         let Ok(found) = cpu_seat
             .reader
             .look_into(&self.machine, firing, &mut cpu_seat.mask)
@@ -47,6 +49,7 @@ impl<J: HubSite> Hub<J> {
                 rt,
                 &context,
                 &cpu_seat.mask,
+                &mut cpu_seat.scratch,
                 &mut cpu_seat.followers,
                 &mut cpu_seat.held,
                 &mut cpu_seat.reader,

@@ -9,7 +9,9 @@ ghost use Rattle.dt_seat.specs.Keeps.{followed_at};
 
 use crate::offered::Offered;
 use dt_chain::{ChainReader, Front, SEATS, Seat, SeatMask};
+use dt_consumer::Scratch;
 use dt_facts::{Both, Facts};
+use dt_machine::Machine;
 use dt_seat::{Follower, Held, HubSite};
 use std::alloc::{AllocError, Global};
 use std::marker::{Brand, Model};
@@ -29,6 +31,10 @@ pub struct CpuSeat<J: HubSite> {
     pub(crate) mask: SeatMask,
     /// What it came to there. What lies at a seat that wasn't named means nothing.
     pub(crate) held: Vec<Held>,
+    /// Where what clauses leave is made.
+    pub(crate) scratch: Scratch,
+    /// The greatest probe of the firings that were read ahead. Nobody asks for it.
+    pub(crate) ahead: u32,
 }
 
 impl<J: HubSite> Model for CpuSeat<J> {
@@ -48,6 +54,33 @@ pub(crate) fn note_down<J: HubSite>(facts: &Facts, log: &mut Both, followers: &V
     ensures { log.new ≡ holding J.word log.old.name (log_fact (places_in log.old.fact ++ knew_at_seats followers.now.items ∷ [])) }
 {
     facts.go_on::<Brand, Vec<Follower<J>>>(log, followers);
+}
+
+/// So many firings of a script are read ahead at once.
+const AHEAD: u32 = 16;
+
+/// Reads the probes of the firings that a processor makes next, at each [`AHEAD`]th of its places: the greatest of them, and at other places what it was before. Nothing is
+/// made of it: but a script is read once, from one end to the other, and each firing lies on lines of its own, for which the processor would wait at each. Here many are asked for
+/// at once, and come in the time of one.
+#[inline(always)]
+pub(crate) fn read_ahead(machine: &Machine, cpu: u32, place: u32, before: u32) -> u32 {
+    if place % AHEAD == 0 {
+        greatest_probe(machine, cpu, place)
+    } else {
+        before
+    }
+}
+
+/// The greatest probe of the next [`AHEAD`] firings of a script, from a place on.
+#[inline(never)]
+fn greatest_probe(machine: &Machine, cpu: u32, place: u32) -> u32 {
+    let mut greatest = 0;
+    for next in 0..AHEAD {
+        if let Some(firing) = machine.firing(cpu, place.saturating_add(next)) {
+            greatest = firing.probe.max(greatest);
+        }
+    }
+    greatest
 }
 
 impl<J: HubSite> CpuSeat<J> {
@@ -84,6 +117,8 @@ impl<J: HubSite> CpuSeat<J> {
             log,
             mask: SeatMask::new(),
             held,
+            scratch: Scratch::new(),
+            ahead: 0,
         })
     }
 

@@ -20,6 +20,7 @@ use crate::endless::wait_for_ever;
 use crate::gate::{Gate, Moment};
 use crate::hub::Hub;
 use dt_chain::{ChainReader, Seat, SeatMask};
+use dt_consumer::Scratch;
 use dt_machine::Context;
 use dt_seat::{Follower, Held, HubSite};
 use std::sync::{MutexGuard, Wait};
@@ -32,6 +33,7 @@ impl<J: HubSite> Hub<J> {
         seat: Seat,
         life: u64,
         context: &Context,
+        scratch: &mut Scratch,
         follower: &mut Follower<J>,
         reader: &mut ChainReader<J>,
         gate: &G,
@@ -55,7 +57,12 @@ impl<J: HubSite> Hub<J> {
         let cpu = context.firing.cpu;
         let number = seat.number();
         gate.at(cpu, number, Moment::Before);
-        let mut locked = self.seats[number as usize].lock(rt);
+        let lock = &self.seats[number as usize];
+        // mostly nobody has it, and then it is had without a call
+        let mut locked = match lock.try_lock() {
+            Some(guard) => guard,
+            None => lock.lock(rt),
+        };
         // that this lock's seat has this number is known of no `Vec` of locks: it is looked at, and never differs
         if locked.number().number() != number {
             MutexGuard::unlock(locked);
@@ -70,6 +77,7 @@ impl<J: HubSite> Hub<J> {
             &self.chains,
             life,
             context,
+            scratch,
             follower,
             reader,
         );
@@ -84,6 +92,7 @@ impl<J: HubSite> Hub<J> {
         rt: &R,
         context: &Context,
         mask: &SeatMask,
+        scratch: &mut Scratch,
         followers: &mut Vec<Follower<J>>,
         held: &mut Vec<Held>,
         reader: &mut ChainReader<J>,
@@ -109,7 +118,16 @@ impl<J: HubSite> Hub<J> {
         let mut next = 0;
         'seats: while let Some((seat, life)) = left.pop_first() {
             let at = seat.number() as usize;
-            held[at] = self.offer_at(rt, seat, life, context, &mut followers[at], reader, gate);
+            held[at] = self.offer_at(
+                rt,
+                seat,
+                life,
+                context,
+                scratch,
+                &mut followers[at],
+                reader,
+                gate,
+            );
             next = at + 1;
         }
     }

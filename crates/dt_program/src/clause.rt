@@ -145,11 +145,11 @@ pub enum Statement {
 /// (illumos Dynamic Tracing Guide, "Program Structure".)
 #[derive(Drop)]
 pub struct Clause {
-    /// One at least, and at most [`DESCRIPTIONS_MAX`].
-    pub descriptions: Vec<Description>,
-    pub predicate: Option<Expr>,
     /// At most [`STATEMENTS_MAX`].
     pub statements: Vec<Statement>,
+    pub predicate: Option<Expr>,
+    /// One at least, and at most [`DESCRIPTIONS_MAX`].
+    pub descriptions: Vec<Description>,
     pub ghost described: { 1 ≤ vec_len descriptions },
     pub ghost few_descriptions: { vec_len descriptions ≤ DESCRIPTIONS_MAX },
     pub ghost few: { vec_len statements ≤ STATEMENTS_MAX },

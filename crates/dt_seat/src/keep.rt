@@ -83,12 +83,12 @@ impl<J: HubSite> Keep<J> {
             ≡ own (follower.old.cpu + 1) (noted_of life follower.old) }
         ensures carried { Carries follower.old follower.new life }
     {
-        if self.note.is_some() {
+        facts.agree(&mut self.book, &mut follower.share);
+        if follower.note.is_none() || follower.life != life {
             self.hand_over(facts, lives, life, owner, follower);
             return;
         }
         facts.catch_up(lives, &mut follower.lives);
-        facts.agree(&mut self.book, &mut follower.share);
     }
 
     /// The same where the note lies here, as it does once in a life for each processor. It stands apart, so that what it moves is out of the way of all other

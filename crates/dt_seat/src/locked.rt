@@ -29,6 +29,7 @@ use crate::replied::Replied;
 use crate::session::Session;
 use crate::site::HubSite;
 use dt_chain::{ChainReader, Seat};
+use dt_consumer::Scratch;
 use dt_facts::{Book, Facts, Share};
 use dt_machine::{Context, Machine};
 use dt_proto::Asked;
@@ -44,10 +45,10 @@ use std::sync::{Mutex, Wait};
 pub struct LockedSeat<J: HubSite> {
     pub(crate) number: Seat,
     pub(crate) life: u64,
+    pub(crate) keeps: Vec<Keep<J>>,
     pub(crate) present: Option<Present<J>>,
     pub(crate) lives: Book,
     pub(crate) free: Option<Idle>,
-    pub(crate) keeps: Vec<Keep<J>>,
     pub(crate) writes: Share,
 }
 
@@ -172,6 +173,7 @@ impl<J: HubSite> LockedSeat<J> {
         chains: &Mutex<HubPublisher<J>>,
         life: u64,
         context: &Context,
+        scratch: &mut Scratch,
         follower: &mut Follower<J>,
         reader: &mut ChainReader<J>,
     ) -> Held
@@ -215,6 +217,7 @@ impl<J: HubSite> LockedSeat<J> {
             present,
             &mut self.keeps,
             context,
+            scratch,
             follower,
         );
         hear(reader, &present.front);

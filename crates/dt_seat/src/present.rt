@@ -16,7 +16,7 @@ use crate::keep::Keep;
 use crate::site::HubSite;
 use crate::trailed::{Note, Owner, offer};
 use dt_chain::Front;
-use dt_consumer::Consumer;
+use dt_consumer::{Consumer, Scratch};
 use dt_cred::Account;
 use dt_facts::{Book, Facts};
 use dt_machine::{Context, Machine};
@@ -24,13 +24,13 @@ use dt_machine::{Context, Machine};
 /// The session on a seat: its account, its consumer, and the trail that this stands for.
 #[derive(Drop)]
 pub(crate) struct Present<J: HubSite> {
-    pub(crate) account: Account,
-    pub(crate) owner: Owner<J>,
-    pub(crate) consumer: Consumer,
-    /// Whether its interest may stand in the chains.
-    pub(crate) is_published: bool,
     /// The writes that were published as its `go` was accepted, once it was.
     pub(crate) front: Option<Front<J>>,
+    pub(crate) owner: Owner<J>,
+    pub(crate) consumer: Consumer,
+    pub(crate) account: Account,
+    /// Whether its interest may stand in the chains.
+    pub(crate) is_published: bool,
 }
 
 /// A processor offers a firing to the session, having taken its note of the trail.
@@ -42,6 +42,7 @@ pub(crate) fn hold_at<J: HubSite>(
     present: &mut Present<J>,
     keeps: &mut Vec<Keep<J>>,
     context: &Context,
+    scratch: &mut Scratch,
     follower: &mut Follower<J>,
 ) -> Held
     requires machine { machine.now ≡ J.contents }
@@ -73,6 +74,7 @@ pub(crate) fn hold_at<J: HubSite>(
         &mut present.consumer,
         note,
         context,
+        scratch,
     );
     if is_seen {
         Held::Kept

@@ -14,7 +14,7 @@ ghost use Rattle.dt_trail.specs.Limits.{trail_cpus_max, opening_cells};
 
 use crate::line_kept::LineKept;
 use crate::prepared::Prepared;
-use dt_consumer::Consumer;
+use dt_consumer::{Consumer, Scratch};
 use dt_cred::Account;
 use dt_legal::{LegalIn, Traced};
 use dt_life::LINES_MAX;
@@ -147,6 +147,7 @@ pub(crate) fn offer<J: Traced>(
     consumer: &mut Consumer,
     note: &mut Note<J>,
     context: &Context,
+    scratch: &mut Scratch,
 ) -> bool
     requires machine { machine.now ≡ J.contents }
     requires kept { IsTrailed J.contents owner.old.row.account owner.old consumer.old }
@@ -163,7 +164,7 @@ pub(crate) fn offer<J: Traced>(
     ensures note { note.new ≡ noted note.old.row note.old.number (row_offered owner.old.knows context.now.firing.now result) }
     ensures met { Meets owner.old.knows note.old }
 {
-    let is_seen = consumer.offer_context(machine, context);
+    let is_seen = consumer.offer_context(machine, context, scratch);
     if is_seen {
         // an append shows the note the whole row
         let item = Item::fired(context.firing.cpu, context.firing.place);

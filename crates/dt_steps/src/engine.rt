@@ -8,6 +8,7 @@ use crate::place::{Place, free_seats};
 use crate::session::{Answered, Finished};
 use crate::step::Step;
 use dt_chain::{Entries, SEATS, Seat, SeatMask, SeatSet};
+use dt_consumer::Scratch;
 use dt_cred::Account;
 use dt_machine::{Firing, Machine};
 use dt_proto::WholeLine;
@@ -19,6 +20,7 @@ pub struct Engine<'m> {
     pub(crate) seats: Vec<Place>,
     pub(crate) publications: Entries,
     pub(crate) processors: Vec<DueOffers<'m>>,
+    pub(crate) scratch: Scratch,
     ghost all: { vec_len seats ≡ SEATS },
 }
 
@@ -42,6 +44,7 @@ impl<'m> Engine<'m> {
             seats: free_seats(alloc)?,
             publications: Entries::new(alloc),
             processors: idle_processors(alloc, machine.cpus())?,
+            scratch: Scratch::new(),
         })
     }
 
@@ -172,7 +175,8 @@ impl<'m> Engine<'m> {
         };
         let place = &mut self.seats[seat.number() as usize];
         // where the firing stands is told if the session saw it: a trail has seen firings alone
-        place.deliver(machine, life, &context).then_some(at)
+        let is_seen = place.deliver(machine, life, &context, &mut self.scratch);
+        is_seen.then_some(at)
     }
 
     /// Ends the session on a seat.

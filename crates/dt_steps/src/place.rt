@@ -6,6 +6,7 @@ ghost use Rattle.dt_steps.specs.Stands.{IsPlace};
 
 use crate::session::{Answered, Finished, Session};
 use dt_chain::{Entries, SEATS, Seat};
+use dt_consumer::Scratch;
 use dt_cred::Account;
 use dt_machine::{Context, Machine};
 use dt_proto::WholeLine;
@@ -132,7 +133,13 @@ impl Place {
 
     /// A firing reaches its session, if that has this life. Answers whether the session saw the firing. It is due to a session
     /// that is shown it: the look asked for that, so the offer doesn't.
-    pub(crate) fn deliver(&mut self, machine: &Machine, life: u64, context: &Context) -> bool
+    pub(crate) fn deliver(
+        &mut self,
+        machine: &Machine,
+        life: u64,
+        context: &Context,
+        scratch: &mut Scratch,
+    ) -> bool
         ensures seen { (place : world.Place) → IsPlace machine.now.registry place self.old
             → IsContext machine.now.registry context.now
             → IsDueToShown machine.now.registry place (record { life = life; firing = context.now.firing.now })
@@ -148,7 +155,7 @@ impl Place {
             return false;
         }
         match &mut self.present {
-            Some(session) => session.consumer.offer_shown(machine, context),
+            Some(session) => session.consumer.offer_shown(machine, context, scratch),
             None => false,
         }
     }

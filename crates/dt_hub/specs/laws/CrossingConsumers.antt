@@ -71,19 +71,19 @@ statement_send = recorded_send (statement.the_field).row _ _ statement.the_type.
 
 clause_field : IsSend (clause.the_field).row
 clause_field = struct_send (shape clause.the_type)
-    (std.Vec-send _ description.the_send, (search (expr_send, sendable), (std.Vec-send statement.the_row statement_send, tt)))
+    (std.Vec-send statement.the_row statement_send, (search (expr_send, sendable), (std.Vec-send _ description.the_send, tt)))
 
 pub clause_send : IsSend clause.the_row
 clause_send = recorded_send (clause.the_field).row _ _ clause.the_type.to_one clause_field
 
 programs_field : IsSend (programs.the_field).row
 programs_field = struct_send (shape programs.the_type)
-    (std.Vec-send clause.the_row clause_send, (std.Vec-send outline.the_row outlines.the_send, (std.Vec-send ecb.the_row ecbs.the_send, (shapes.the_field_send, tt))))
+    (std.Vec-send ecb.the_row ecbs.the_send, (shapes.the_field_send, (std.Vec-send outline.the_row outlines.the_send, (std.Vec-send clause.the_row clause_send, tt))))
 
 -- a consumer, as a part of another type
 pub consumer_field : IsSend (consumer.the_field).row
 consumer_field = struct_send (shape consumer.the_type)
-    (account.the_field_send, (options.the_field_send, (programs_field, (search (tracing.the_send, sendable), (search sendable, (search sendable, tt))))))
+    (account.the_field_send, (programs_field, (search (tracing.the_send, sendable), (options.the_field_send, (search sendable, (search sendable, tt))))))
 
 pub consumer_send : IsSend consumer.the_row
 consumer_send = recorded_send (consumer.the_field).row _ _ consumer.the_type.to_one consumer_field

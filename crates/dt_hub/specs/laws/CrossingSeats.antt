@@ -22,10 +22,10 @@ use Rattle.dt_seat.proofs.keep.Keep.TheSendSync as keep
 -- the consumer and its trail, and what its session published
 present_field : (J : RattleType) (s : site.Ghosts J.Denot) (t : traced.Ghosts J.Denot) → IsSend (present.the_field J s t).row
 present_field J s t = struct_send (shape (present.the_type J s t)) (
-  account.the_field_send,
+  search (front.the_send, std.crosses, sendable),
   (
     search (trail_owner.the_send, account.the_send, std.crosses, sendable) depth 60,
-    (consumer_field, (search sendable, (search (front.the_send, std.crosses, sendable), tt))),
+    (consumer_field, (account.the_field_send, (search sendable, tt))),
   ),
 )
 
@@ -38,10 +38,10 @@ inside_send J h s t = recorded_send (inside.the_field J h s t).row _ _ (inside.t
   (
     search sendable,
     (
-      search (present_send, sendable),
+      search (keep.the_send, std.crosses, sendable),
       (
-        search (book.the_send, sendable),
-        (search (idle.the_send, sendable), (search (keep.the_send, std.crosses, sendable), (search (share.the_send, sendable), tt))),
+        search (present_send, sendable),
+        (search (book.the_send, sendable), (search (idle.the_send, sendable), (search (share.the_send, sendable), tt))),
       ),
     ),
   ),

@@ -11,7 +11,7 @@ use Rattle.dt_consumer.proofs.processors.Processors.put_record.Goals as goal
 pub returns-in-None-clause-put : goal.returns-in-None-clause-put
 returns-in-None-clause-put c = λ past tallies at last h.
     let own = c.args.self.now in
-    let form = form_of_taken own.left in
+    let form = form_of_taken c.args.left.now in
     let tally = tallies c.args.cpu in
     tallied_changed tallies c.args.cpu (with_left c.args.in_end c.args.cpu past form tally) own.all.items
     c.index_mut-processor.result.now _ (omega (arith, c.requires.there)) c.index_mut-processor.ensures.value
@@ -28,7 +28,7 @@ returns-in-None-clause-put c = λ past tallies at last h.
 pub returns-in-Dropped-clause-put : goal.returns-in-Dropped-clause-put
 returns-in-Dropped-clause-put c = λ past tallies at last h.
     let own = c.args.self.now in
-    let form = form_of_taken own.left in
+    let form = form_of_taken c.args.left.now in
     let tally = tallies c.args.cpu in
     let bytes = c.deref-in-Some-spec.result.now in
     let id = c.in-Some-spec.id in
@@ -49,7 +49,7 @@ returns-in-Dropped-clause-put c = λ past tallies at last h.
 pub returns-in_default-put : goal.returns-in_default-put
 returns-in_default-put c =
     let own = c.args.self.now in
-    let form = form_of_taken own.left in
+    let form = form_of_taken c.args.left.now in
     let bytes = c.deref-in-Some-spec.result.now in
     let id = c.in-Some-spec.id in
     let left = ap (option_map (λ bytes. bytes.items)) c.in-Some.is ∙ ap Some (sym c.deref-in-Some-spec.ensures.0) in
@@ -57,7 +57,6 @@ returns-in_default-put c =
       len = omega arith;
       stores = refl;
       locals = refl;
-      left = refl;
       counts = λ n h. at_most_set n (n + 1) own.all.items c.args.cpu c.index_mut-processor.result.now _ (omega arith)
           (omega (arith, c.requires.there)) c.index_mut-processor.ensures.value
           (λ at. (omega (arith, at.0), omega (arith, at.1), omega (arith, at.2), omega (arith, at.3))) h;
@@ -83,5 +82,5 @@ returns-in_default-put c =
 pub returns-in_default-clause-put : goal.returns-in_default-clause-put
 returns-in_default-clause-put c = λ past tallies at last h.
     tallied_same tallies c.args.cpu _ c.args.self.now.all.items
-    (left_nothing c.args.in_end c.args.cpu past (form_of_taken c.args.self.now.left) (tallies c.args.cpu)
+    (left_nothing c.args.in_end c.args.cpu past (form_of_taken c.args.left.now) (tallies c.args.cpu)
     (ap (option_map (λ bytes. bytes.items)) c.in_default.is)) h

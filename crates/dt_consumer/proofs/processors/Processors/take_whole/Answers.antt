@@ -76,9 +76,7 @@ returns-in-Ok-true-clause-after c = λ account registry s steps enabled are none
     let put = c.put_record.ensures.put drawn (known_tally account registry s steps in_end m ecb) stands.speculations
     (known_last account registry s steps in_end m ecb none cpu) counted in
     let specs = c.put_record.ensures.specs drawn stands.speculations in
-    let left : c.put_record.new.self.left ≡ known.self = c.put_record.ensures.left in
-    let ends : c.deref-in-Ok-true.result.now ≡ known.self.ends.items =
-    c.deref-in-Ok-true.ensures.0 ∙ ap (λ (l : Taken). l.ends.items) left in
+    let ends : c.deref-in-Ok-true.result.now ≡ known.self.ends.items = c.deref-in-Ok-true.ensures.0 in
     let tallies = changed_at (known_tally account registry s steps in_end m ecb) cpu
     (with_left in_end cpu drawn form (known_tally account registry s steps in_end m ecb cpu)) in
     let ended = c.end_speculations.ensures.ended (specs_then drawn (puts_in cpu form)) tallies specs
@@ -103,7 +101,7 @@ returns-in-Ok-true-clause-after c = λ account registry s steps enabled are none
           (sym c.index-enabled-ecb-in-Ok-true.is)
           (subst (λ vs. IsAt (given_then (given_after s steps cpu) (split_by (form_of_uses
           (get_or c.args.enabled.now.uses.now c.args.ecb.clause c.index-enabled-ecb-in-Ok-true.result)) vs)) c.give.new.store)
-          (c.deref.ensures.0 ∙ ap (λ (l : Taken). l.values.items) left)
+          c.deref.ensures.0
           (c.give.ensures.stands (given_after s steps cpu) h))));
       locals = subst (LocalsAreAt (locals_of s.options (steps ++ takes t ∷ []))) (sym c.put_record.ensures.locals)
           (locals_more account registry s steps in_end m ecb known.locals stands.variables);
@@ -134,8 +132,7 @@ returns-in-Ok-true-clause-exit c = λ account registry s steps enabled are.
     let comes : t.taken.outcome ≡ leaves form =
     sym (ap (λ (k : ClauseTaken). k.outcome) same) ∙ c.in-Ok-true.ensures.left past at
     ∙ ap (λ b. cond b (leaves form) passed_over) c.in-Ok-true.field-0-test in
-    ap (λ (l : Taken). l.exit) c.put_record.ensures.left
-    ∙ sym (ap (λ outcome. option_and_then (λ (f : TakenForm). f.exit) (left_in outcome)) comes)
+    sym (ap (λ outcome. option_and_then (λ (f : TakenForm). f.exit) (left_in outcome)) comes)
 
 pub returns-in-Ok-false-clause-after : goal.returns-in-Ok-false-clause-after
 returns-in-Ok-false-clause-after c = λ account registry s steps enabled are none.

@@ -41,16 +41,16 @@ returns c = λ world at.
     let shown : IsDueToShown registry (world.places c.args.seat) due =
     shown-due registry world seats publications processors at.0 at.1 c.args.cpu c.args.seat before due is owes in
     let seen = seen-offered registry world seats publications processors at.0 at.1 c.args.cpu c.number.result c.args.seat
-    c.index_mut-place.result.now before due found is owes c.deliver.result
-    (λ held. c.deliver.ensures.seen (world.places c.args.seat) held lent shown) in (
+    c.index_mut-place.result.now before due found is owes c.deliver-is_seen.result
+    (λ held. c.deliver-is_seen.ensures.seen (world.places c.args.seat) held lent shown) in (
       (
         sound-offering registry world at.0 c.args.cpu c.args.seat,
         kept-offering registry world seats publications processors at.0 at.1 c.args.cpu c.number.result c.args.seat
-            c.index_mut-place.result.now c.deliver.new.self before c.take.new.self due found is owes
+            c.index_mut-place.result.now c.deliver-is_seen.new.self before c.take.new.self due found is owes
             c.in_ok-life.ensures.taken c.in_ok-life.ensures.context
-            (λ held. c.deliver.ensures.reached (world.places c.args.seat) held lent shown),
+            (λ held. c.deliver-is_seen.ensures.reached (world.places c.args.seat) held lent shown),
       ),
-      c.then_some.ensures ∙ place_if c.deliver.result due.firing ∙ sym (ap (option_map place_of) seen),
+      c.then_some.ensures ∙ place_if c.deliver-is_seen.result due.firing ∙ sym (ap (option_map place_of) seen),
     )
 
 pub returns-in_err-life : goal.returns-in_err-life
