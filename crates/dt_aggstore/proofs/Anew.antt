@@ -9,29 +9,28 @@ use Rattle.std.proofs.lemmas.List.Sorted.{All-permutation, IsPermutation-append_
 use Rattle.std.proofs.lemmas.List.Sorted.{IsPermutation-refl, IsPermutation-sym, IsPermutation-trans, length_permutation}
 use Rattle.dt_aggfn.specs.declared.function.AggFn.{AggFn}
 use Rattle.dt_aggfn.specs.Cells.{cell_of, IsBag}
-use Rattle.dt_aggstore.specs.Joining.{cell_shared, cell_joined, key_of, AreJoined, AreShares, AreSharesInSomeOrder, MakeBag}
-use Rattle.dt_aggstore.specs.declared.joining.Joined.{Joined}
-use Rattle.dt_aggstore.specs.declared.share.KeyShare.{KeyShare}
+use Rattle.dt_aggstore.specs.Joining.{cell_shared, shared_key, AreJoined, AreShares, AreSharesInSomeOrder, MakeBag}
+use Rattle.dt_aggstore.specs.Shares.{ShareForm}
 use Rattle.dt_aggstore.proofs.Rising.{Key, all_weaker}
 use Rattle.dt_aggstore.proofs.Sharing.{has_key}
 
 -- some shares pass a test, and make a bag
-module _ (function : AggFn) (p : KeyShare → Bool) where
+module _ (function : AggFn) (p : ShareForm → Bool) where
   -- What those of some shares make, those of others make in another order.
-  abbrev Turns : (xs ys : List KeyShare) → Type 0
+  abbrev Turns : (xs ys : List ShareForm) → Type 0
   Turns xs ys = (bag : List ℤ) → MakeBag function (filter p xs) bag
       → (other : List ℤ) × IsPermutation bag other × MakeBag function (filter p ys) other
 
-  stays : (xs : List KeyShare) → Turns xs xs
+  stays : (xs : List ShareForm) → Turns xs xs
   stays xs bag m = (bag, IsPermutation-refl bag, m)
 
-  goes_on : (xs ys zs : List KeyShare) → Turns xs ys → Turns ys zs → Turns xs zs
+  goes_on : (xs ys zs : List ShareForm) → Turns xs ys → Turns ys zs → Turns xs zs
   goes_on xs ys zs f g bag m =
       let once = f bag m in
       let twice = g once.0 once.2 in (twice.0, IsPermutation-trans _ _ _ once.1 twice.1, twice.2)
 
   -- with one more in front
-  with_first : (x : KeyShare) (xs ys : List KeyShare) → Turns xs ys → Turns (x ∷ xs) (x ∷ ys)
+  with_first : (x : ShareForm) (xs ys : List ShareForm) → Turns xs ys → Turns (x ∷ xs) (x ∷ ys)
   with_first x xs ys f bag m = by (p x) m
     where
       with_part : (parts : List (List ℤ)) → AllZip (λ share part. IsBag part × (cell_shared share ≡ cell_of function part)) (x ∷ filter p xs) parts
@@ -55,7 +54,7 @@ module _ (function : AggFn) (p : KeyShare → Bool) where
       by false m = f bag m
 
   -- of two that pass each brings its values in front of the other's
-  both_turned : (x y : KeyShare) (xs : List KeyShare) (bag : List ℤ) (parts : List (List ℤ))
+  both_turned : (x y : ShareForm) (xs : List ShareForm) (bag : List ℤ) (parts : List (List ℤ))
       → AllZip (λ share part. IsBag part × (cell_shared share ≡ cell_of function part)) (x ∷ y ∷ xs) parts
       → bag ≡ flat_map (λ part. part) parts
       → (other : List ℤ) × IsPermutation bag other × MakeBag function (y ∷ x ∷ xs) other
@@ -73,7 +72,7 @@ module _ (function : AggFn) (p : KeyShare → Bool) where
         },
       )
 
-  first_two : (x y : KeyShare) (xs : List KeyShare) → Turns (x ∷ y ∷ xs) (y ∷ x ∷ xs)
+  first_two : (x y : ShareForm) (xs : List ShareForm) → Turns (x ∷ y ∷ xs) (y ∷ x ∷ xs)
   first_two x y xs bag m = by (p x) (p y) m
     where
       by : (b c : Bool) → MakeBag function (cond b (x ∷ cond c (y ∷ filter p xs) (filter p xs)) (cond c (y ∷ filter p xs) (filter p xs))) bag
@@ -85,7 +84,7 @@ module _ (function : AggFn) (p : KeyShare → Bool) where
       by false false m = (bag, IsPermutation-refl bag, m)
 
   -- the first and a later one
-  first_and : (d x : KeyShare) (xs : List KeyShare) (j : ℕ) → j < length xs → Turns (x ∷ xs) (get_or xs j d ∷ set xs j x)
+  first_and : (d x : ShareForm) (xs : List ShareForm) (j : ℕ) → j < length xs → Turns (x ∷ xs) (get_or xs j d ∷ set xs j x)
   first_and d x [] j small = absurd (omega (arith, small))
   first_and d x (y ∷ xs) zero small = first_two x y xs
   first_and d x (y ∷ xs) (suc j) small =
@@ -95,7 +94,7 @@ module _ (function : AggFn) (p : KeyShare → Bool) where
       (goes_on (x ∷ y ∷ xs) (y ∷ x ∷ xs) (y ∷ there) (first_two x y xs) (with_first y (x ∷ xs) there later)) (first_two y (get_or xs j d) (set xs j x))
 
   -- any two
-  any_two : (d : KeyShare) (xs : List KeyShare) (i j : ℕ) → i < length xs → j < length xs
+  any_two : (d : ShareForm) (xs : List ShareForm) (i j : ℕ) → i < length xs → j < length xs
       → Turns xs (set (set xs i (get_or xs j d)) j (get_or xs i d))
   any_two d [] i j a b = absurd (omega (arith, a))
   any_two d (x ∷ xs) zero zero a b = stays (x ∷ xs)
@@ -104,15 +103,15 @@ module _ (function : AggFn) (p : KeyShare → Bool) where
   any_two d (x ∷ xs) (suc i) (suc j) a b =
       with_first x xs (set (set xs i (get_or xs j d)) j (get_or xs i d)) (any_two d xs i j (omega (arith, a)) (omega (arith, b)))
 
-  exchanged : (xs : List KeyShare) (i j : ℕ) → i < length xs → j < length xs → Turns xs (swap xs i j)
+  exchanged : (xs : List ShareForm) (i j : ℕ) → i < length xs → j < length xs → Turns xs (swap xs i j)
   exchanged [] i j a b = absurd (omega (arith, a))
   exchanged (x ∷ xs) i j a b = subst (Turns (x ∷ xs)) (swap_is (x ∷ xs) i j x a b) (any_two x (x ∷ xs) i j a b)
 
   -- in any order
-  turned : (xs ys : List KeyShare) → IsPermutation xs ys → Turns xs ys
+  turned : (xs ys : List ShareForm) → IsPermutation xs ys → Turns xs ys
   turned xs ys moved = IsPermutation-keeps xs (Turns xs) (stays xs) (λ l i j a b so_far. goes_on xs l (swap l i j) so_far (exchanged l i j a b)) ys moved
 
-pub shares_anew : (function : AggFn) (bags : Key → List ℤ) (xs ys : List KeyShare) → IsPermutation xs ys
+pub shares_anew : (function : AggFn) (bags : Key → List ℤ) (xs ys : List ShareForm) → IsPermutation xs ys
     → AreShares function bags xs → AreSharesInSomeOrder function bags ys
 shares_anew function bags xs ys moved a = record {
   others = λ key. (turned function (has_key key) xs ys moved (bags key) (a key)).0;
@@ -127,7 +126,7 @@ none_too a [] p e = refl
 none_too a (x ∷ b) p e = absurd (omega (arith, length_permutation a (x ∷ b) p, ap length e))
 
 pub joined_anew : ((f : AggFn) (a b : List ℤ) → IsPermutation a b → cell_of f a ≡ cell_of f b)
-    → (function : AggFn) (bags others : Key → List ℤ) (rows : List Joined)
+    → (function : AggFn) (bags others : Key → List ℤ) (rows : List ShareForm)
     → ((key : Key) → IsPermutation (bags key) (others key)) → AreJoined function others rows
     → AreJoined function bags rows
 joined_anew any function bags others rows same j = record {
@@ -137,9 +136,9 @@ joined_anew any function bags others rows same j = record {
     (λ some. (j.has key).1 (λ none. some
         (none_too (others key) (bags key) (IsPermutation-sym (bags key) (others key) (same key)) none))),
   );
-  cells = all_weaker (λ row. cell_joined row ≡ cell_of function (others (key_of row)))
-      (λ row. cell_joined row ≡ cell_of function (bags (key_of row)))
-      (λ row e. e ∙ sym (any function (bags (key_of row)) (others (key_of row)) (same (key_of row)))) rows j.cells;
+  cells = all_weaker (λ row. cell_shared row ≡ cell_of function (others (shared_key row)))
+      (λ row. cell_shared row ≡ cell_of function (bags (shared_key row)))
+      (λ row e. e ∙ sym (any function (bags (shared_key row)) (others (shared_key row)) (same (shared_key row)))) rows j.cells;
   words = λ key. recursion_from_All (λ z. FitsSigned w64 z) (bags key)
       (All-permutation (λ z. FitsSigned w64 z) (others key) (bags key)
       (IsPermutation-sym (bags key) (others key) (same key))

@@ -12,10 +12,10 @@ use Rattle.dt_aggstore.specs.History.{Past}
 use Rattle.dt_aggstore.specs.Held.{entry_of, counted, held_after, bag}
 use Rattle.dt_aggstore.specs.EntryNames.{entry_named, entries_named, words_of}
 use Rattle.dt_aggstore.specs.IsAt.{IsAt}
+use Rattle.dt_aggstore.specs.Shares.{ShareForm}
 use Rattle.dt_aggstore.specs.Joining.{cell_shared, AreShares, joined_at, shared_key}
 use Rattle.dt_aggstore.specs.declared.key.Aggregation.{Aggregation}
 use Rattle.dt_aggstore.specs.declared.entry_name.EntryName.{EntryName}
-use Rattle.dt_aggstore.specs.declared.share.KeyShare.{KeyShare}
 use Rattle.dt_aggstore.specs.declared.store.AggStore.{AggStore}
 use Rattle.dt_aggstore.proofs.Same.{aggregation_is, own_aggregation, key_decides, own_entry}
 use Rattle.dt_aggstore.proofs.Filters.{yes_or_no}
@@ -157,7 +157,7 @@ module _ (past : Past) (store : AggStore) (at : IsAt past store) (i : ℕ) (x : 
 module _ (past : Past) (store : AggStore) (at : IsAt past store) (aggregation : Aggregation) (bags : Key → List ℤ)
     (i : ℕ)
     (x : EntryName) (here : i < length store.entries.items) (is : x ≡ get_or store.entries.items i x)
-    (shares : List KeyShare)
+    (shares : List ShareForm)
     (so_far : AreShares aggregation.function
     (Gathered past store at aggregation bags (entries_named (take i store.entries.items)))
     shares) where
@@ -181,7 +181,7 @@ module _ (past : Past) (store : AggStore) (at : IsAt past store) (aggregation : 
 
   pub entry_shared : Lengths → same_aggregation aggregation x.aggregation ≡ true
       → (place words : ℕ) → place ≡ words_of So-far → words ≡ cell_words x.aggregation.function
-      → (share : KeyShare) → shared_key share ≡ x.key.parts.items
+      → (share : ShareForm) → shared_key share ≡ x.key.parts.items
       → cell_shared share ≡ slice_range store.cells.items place (place + words)
       → AreShares aggregation.function (Gathered past store at aggregation bags Next) (shares ++ share ∷ [])
   entry_shared lengths same place words p w share k c =

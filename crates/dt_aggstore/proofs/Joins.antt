@@ -12,8 +12,8 @@ use Rattle.dt_aggfn.specs.declared.limits.TheConstants.{BAG_LIMIT}
 use Rattle.dt_aggfn.specs.Cells.{cell_of, IsBag}
 use Rattle.dt_aggstore.specs.Keys.{same_key, IsBelow}
 use Rattle.dt_aggstore.specs.Table.{IsRising}
-use Rattle.dt_aggstore.specs.Joining.{cell_joined, key_of, keys_of, AreJoined, joined_at, NoneAfter}
-use Rattle.dt_aggstore.specs.declared.joining.Joined.{Joined}
+use Rattle.dt_aggstore.specs.Joining.{cell_shared, shared_key, keys_of, AreJoined, joined_at, NoneAfter}
+use Rattle.dt_aggstore.specs.Shares.{ShareForm}
 use Rattle.dt_aggstore.proofs.Same.{key_decides}
 use Rattle.dt_aggstore.proofs.Filters.{yes_or_no}
 use Rattle.dt_aggstore.proofs.Rising.{Key, AllBelow, AllAbove, below_differs, above_differs, below_chain, one_or_above}
@@ -23,8 +23,8 @@ use Rattle.dt_aggstore.proofs.Rising.{rising_inserted, contains_new, contains_ke
 abbrev Bags-of : Type 0
 Bags-of = Key → List ℤ
 
-abbrev Cells-are : AggFn → Bags-of → List Joined → Type 0
-Cells-are function bags rows = AllByRecursion (λ row. cell_joined row ≡ cell_of function (bags (key_of row))) rows
+abbrev Cells-are : AggFn → Bags-of → List ShareForm → Type 0
+Cells-are function bags rows = AllByRecursion (λ row. cell_shared row ≡ cell_of function (bags (shared_key row))) rows
 
 own_key : (key : Key) → same_key key key ≡ true
 own_key key = (key_decides key key).1 refl
@@ -45,11 +45,11 @@ module _ (key : Key) (bag : List ℤ) (bags : Bags-of) where
   joined_other other e = ap (λ b. cond b (bags other ++ bag) (bags other)) e
 
   -- the cells of rows with other keys stay
-  cells_other : (function : AggFn) (rows : List Joined) → AllByRecursion (λ k. same_key key k ≡ false) (keys_of rows)
+  cells_other : (function : AggFn) (rows : List ShareForm) → AllByRecursion (λ k. same_key key k ≡ false) (keys_of rows)
       → Cells-are function bags rows → Cells-are function (joined_at key bag bags) rows
   cells_other function [] apart cells = tt
   cells_other function (row ∷ rows) apart cells = (
-    cells.0 ∙ ap (cell_of function) (sym (joined_other (key_of row) apart.0)),
+    cells.0 ∙ ap (cell_of function) (sym (joined_other (shared_key row) apart.0)),
     cells_other function rows apart.1 cells.1,
   )
 
@@ -80,17 +80,17 @@ module _ (key : Key) (bag : List ℤ) (bags : Bags-of) where
       (λ no. inr (subst (λ b. b ≢ []) (joined_other k no) h))
       (yes_or_no (same_key key k))
 
-keys-split : (before : List Joined) (row : Joined) (later : List Joined)
-    → keys_of (before ++ row ∷ later) ≡ keys_of before ++ key_of row ∷ keys_of later
-keys-split before row later = map-append key_of before (row ∷ later)
+keys-split : (before : List ShareForm) (row : ShareForm) (later : List ShareForm)
+    → keys_of (before ++ row ∷ later) ≡ keys_of before ++ shared_key row ∷ keys_of later
+keys-split before row later = map-append shared_key before (row ∷ later)
 
 -- ---- the key has a row
 
-module _ (function : AggFn) (bags : Bags-of) (bag : List ℤ) (before : List Joined) (row new : Joined) (later :
-    List Joined)
+module _ (function : AggFn) (bags : Bags-of) (bag : List ℤ) (before : List ShareForm) (row new : ShareForm) (later :
+    List ShareForm)
     (j : AreJoined function bags (before ++ row ∷ later)) where
   abbrev Row-key : Key
-  Row-key = key_of row
+  Row-key = shared_key row
 
   rises : IsRising (keys_of before ++ Row-key ∷ keys_of later)
   rises = subst IsRising (keys-split before row later) j.rising
@@ -116,15 +116,15 @@ module _ (function : AggFn) (bags : Bags-of) (bag : List ℤ) (before : List Joi
     words = j.words Row-key;
   }
 
-  pub row_cell : cell_joined row ≡ cell_of function (bags Row-key)
-  row_cell = (all_back (λ row. cell_joined row ≡ cell_of function (bags (key_of row))) before (row ∷ later) j.cells).0
+  pub row_cell : cell_shared row ≡ cell_of function (bags Row-key)
+  row_cell = (all_back (λ row. cell_shared row ≡ cell_of function (bags (shared_key row))) before (row ∷ later) j.cells).0
 
-  same_keys : key_of new ≡ Row-key → keys_of (before ++ new ∷ later) ≡ keys_of (before ++ row ∷ later)
+  same_keys : shared_key new ≡ Row-key → keys_of (before ++ new ∷ later) ≡ keys_of (before ++ row ∷ later)
   same_keys e =
       keys-split before new later ∙ ap (λ k. keys_of before ++ k ∷ keys_of later) e
       ∙ sym (keys-split before row later)
 
-  pub merged : key_of new ≡ Row-key → cell_joined new ≡ cell_of function (bags Row-key ++ bag) → IsBag bag
+  pub merged : shared_key new ≡ Row-key → cell_shared new ≡ cell_of function (bags Row-key ++ bag) → IsBag bag
       → AreJoined function (joined_at Row-key bag bags) (before ++ new ∷ later)
   merged e cell own = record {
     rising = subst IsRising (sym (same_keys e)) j.rising;
@@ -138,13 +138,13 @@ module _ (function : AggFn) (bags : Bags-of) (bag : List ℤ) (before : List Joi
           (λ more. (j.has k).1 more)
           (joined_some Row-key bag bags k some))),
     );
-    cells = all_append (λ row. cell_joined row ≡ cell_of function (joined_at Row-key bag bags (key_of row))) before
+    cells = all_append (λ row. cell_shared row ≡ cell_of function (joined_at Row-key bag bags (shared_key row))) before
         (new ∷ later)
         (cells_other Row-key bag bags function before before_apart
-        (all_front (λ row. cell_joined row ≡ cell_of function (bags (key_of row))) before (row ∷ later) j.cells)) (
+        (all_front (λ row. cell_shared row ≡ cell_of function (bags (shared_key row))) before (row ∷ later) j.cells)) (
           cell ∙ ap (cell_of function) (sym (ap (joined_at Row-key bag bags) e ∙ joined_own Row-key bag bags)),
           cells_other Row-key bag bags function later later_apart
-              (all_back (λ row. cell_joined row ≡ cell_of function (bags (key_of row))) before
+              (all_back (λ row. cell_shared row ≡ cell_of function (bags (shared_key row))) before
               (row ∷ later) j.cells).1,
         );
     words = joined_words Row-key bag bags j.words own.words;
@@ -152,11 +152,11 @@ module _ (function : AggFn) (bags : Bags-of) (bag : List ℤ) (before : List Joi
 
 -- ---- the key has none
 
-module _ (function : AggFn) (bags : Bags-of) (bag : List ℤ) (before later : List Joined) (new : Joined)
-    (j : AreJoined function bags (before ++ later)) (below : AllBelow (keys_of before) (key_of new))
-    (above : AllAbove (key_of new) (keys_of later)) where
+module _ (function : AggFn) (bags : Bags-of) (bag : List ℤ) (before later : List ShareForm) (new : ShareForm)
+    (j : AreJoined function bags (before ++ later)) (below : AllBelow (keys_of before) (shared_key new))
+    (above : AllAbove (shared_key new) (keys_of later)) where
   abbrev New-key : Key
-  New-key = key_of new
+  New-key = shared_key new
 
   both_apart : AllByRecursion (λ k. same_key New-key k ≡ false) (keys_of before)
       × AllByRecursion (λ k. same_key New-key k ≡ false) (keys_of later)
@@ -178,35 +178,35 @@ module _ (function : AggFn) (bags : Bags-of) (bag : List ℤ) (before later : Li
       (λ none. none)
       (λ some. absurd (not_among (keys_of before ++ keys_of later)
       (all_append (λ k. same_key New-key k ≡ false) (keys_of before) (keys_of later) both_apart.0 both_apart.1)
-      (subst (λ xs. Contains xs New-key) (map-append key_of before later) ((j.has New-key).1 some))))
+      (subst (λ xs. Contains xs New-key) (map-append shared_key before later) ((j.has New-key).1 some))))
       (empty_or_not (bags New-key))
 
-  pub inserted : cell_joined new ≡ cell_of function bag → IsBag bag
+  pub inserted : cell_shared new ≡ cell_of function bag → IsBag bag
       → AreJoined function (joined_at New-key bag bags) (before ++ new ∷ later)
   inserted cell own = record {
     rising = subst IsRising (sym (keys-split before new later))
         (rising_inserted (keys_of before) New-key (keys_of later)
-        (subst IsRising (map-append key_of before later) j.rising) below above);
+        (subst IsRising (map-append shared_key before later) j.rising) below above);
     has = λ k. (
       (λ a. some_joined New-key bag bags own.some k (⊎_elim
           (λ is. inl is)
-          (λ old. inr ((j.has k).0 (subst (λ xs. Contains xs k) (sym (map-append key_of before later)) old)))
+          (λ old. inr ((j.has k).0 (subst (λ xs. Contains xs k) (sym (map-append shared_key before later)) old)))
           (contains_inserted (keys_of before) New-key (keys_of later) k
           (subst (λ xs. Contains xs k) (keys-split before new later) a)))),
       (λ some. subst (λ xs. Contains xs k) (sym (keys-split before new later)) (⊎_elim
           (λ is. subst (λ x. Contains (keys_of before ++ New-key ∷ keys_of later) x) is
           (contains_new (keys_of before) New-key (keys_of later)))
           (λ more. contains_kept (keys_of before) New-key (keys_of later) k
-          (subst (λ xs. Contains xs k) (map-append key_of before later) ((j.has k).1 more)))
+          (subst (λ xs. Contains xs k) (map-append shared_key before later) ((j.has k).1 more)))
           (joined_some New-key bag bags k some))),
     );
-    cells = all_append (λ row. cell_joined row ≡ cell_of function (joined_at New-key bag bags (key_of row))) before
+    cells = all_append (λ row. cell_shared row ≡ cell_of function (joined_at New-key bag bags (shared_key row))) before
         (new ∷ later)
         (cells_other New-key bag bags function before both_apart.0
-        (all_front (λ row. cell_joined row ≡ cell_of function (bags (key_of row))) before later j.cells)) (
+        (all_front (λ row. cell_shared row ≡ cell_of function (bags (shared_key row))) before later j.cells)) (
           cell ∙ ap (cell_of function) (ap (λ b. b ++ bag) (sym no_values) ∙ sym (joined_own New-key bag bags)),
           cells_other New-key bag bags function later both_apart.1
-              (all_back (λ row. cell_joined row ≡ cell_of function (bags (key_of row))) before later j.cells),
+              (all_back (λ row. cell_shared row ≡ cell_of function (bags (shared_key row))) before later j.cells),
         );
     words = joined_words New-key bag bags j.words own.words;
   }
@@ -214,44 +214,44 @@ module _ (function : AggFn) (bags : Bags-of) (bag : List ℤ) (before later : Li
 -- ---- at the end
 
 -- where no key comes after one, and the last of them is another, all come before it
-pub all_below : (rows : List Joined) (n : ℕ) (key : Key) → n + 1 ≡ length rows → IsRising (keys_of rows)
-    → NoneAfter key (keys_of rows) → ((d : Joined) → same_key (key_of (get_or rows n d)) key ≡ false)
+pub all_below : (rows : List ShareForm) (n : ℕ) (key : Key) → n + 1 ≡ length rows → IsRising (keys_of rows)
+    → NoneAfter key (keys_of rows) → ((d : ShareForm) → same_key (shared_key (get_or rows n d)) key ≡ false)
     → AllBelow (keys_of rows) key
 all_below [] n key e rising none apart = tt
 all_below (row ∷ []) zero key e rising none apart = ⊎_elim
-    (λ same. absurd (false≢true (sym (apart row) ∙ (key_decides (key_of row) key).1 (sym same))))
+    (λ same. absurd (false≢true (sym (apart row) ∙ (key_decides (shared_key row) key).1 (sym same))))
     (λ below. (below, tt))
-    (one_or_above key (key_of row) none.0)
+    (one_or_above key (shared_key row) none.0)
 all_below (row ∷ []) (suc n) key e rising none apart = absurd (omega arith)
 all_below (row ∷ next ∷ rows) zero key e rising none apart = absurd (omega arith)
 all_below (row ∷ next ∷ rows) (suc n) key e rising none apart =
     let rest = all_below (next ∷ rows) n key (omega arith) rising.1 none.1 apart in
-    (below_chain (key_of row) (key_of next) key rising.0.0 rest.0, rest)
+    (below_chain (shared_key row) (shared_key next) key rising.0.0 rest.0, rest)
 
-pub all_below_end : (rows : List Joined) (key : Key) → IsRising (keys_of rows) → NoneAfter key (keys_of rows)
-    → ((d : Joined) → 0 < length rows → same_key (key_of (get_or rows (length rows - 1) d)) key ≡ false)
+pub all_below_end : (rows : List ShareForm) (key : Key) → IsRising (keys_of rows) → NoneAfter key (keys_of rows)
+    → ((d : ShareForm) → 0 < length rows → same_key (shared_key (get_or rows (length rows - 1) d)) key ≡ false)
     → AllBelow (keys_of rows) key
 all_below_end rows key rising none apart = ⊎_elim
     (λ some. all_below rows (length rows - 1) key (omega arith) rising none (λ d. apart d some))
     (λ over. subst (λ xs. AllBelow (keys_of xs) key) (sym (empty rows over)) tt)
     (cases_lt 0 (length rows))
   where
-    empty : (rows : List Joined) → length rows ≤ 0 → rows ≡ []
+    empty : (rows : List ShareForm) → length rows ≤ 0 → rows ≡ []
     empty [] h = refl
     empty (row ∷ rows) h = absurd (omega arith)
 
 -- the rows around the one at a place
-pub rows_at : (rows : List Joined) (place : ℕ) (row : Joined) → place < length rows → row ≡ get_or rows place row
+pub rows_at : (rows : List ShareForm) (place : ℕ) (row : ShareForm) → place < length rows → row ≡ get_or rows place row
     → rows ≡ take place rows ++ row ∷ drop (place + 1) rows
 rows_at rows place row within is =
     sym (take-append-drop place rows)
     ∙ ap (λ xs. take place rows ++ xs) (drop_more rows place row within)
     ∙ ap (λ r. take place rows ++ r ∷ drop (place + 1) rows) (sym is)
 
-module _ (function : AggFn) (bags : Bags-of) (bag : List ℤ) (rows : List Joined) (place : ℕ) (key : Key) (row :
-    Joined)
+module _ (function : AggFn) (bags : Bags-of) (bag : List ℤ) (rows : List ShareForm) (place : ℕ) (key : Key) (row :
+    ShareForm)
     (j : AreJoined function bags rows) (within : place < length rows) (is : row ≡ get_or rows place row)
-    (same : key_of row ≡ key) where
+    (same : shared_key row ≡ key) where
   around : AreJoined function bags (take place rows ++ row ∷ drop (place + 1) rows)
   around = subst (AreJoined function bags) (rows_at rows place row within is) j
 
@@ -260,23 +260,23 @@ module _ (function : AggFn) (bags : Bags-of) (bag : List ℤ) (rows : List Joine
       subst (λ k. length (bags k) < BAG_LIMIT → IsBag (bags k)) same
       (row_bag function bags bag (take place rows) row row (drop (place + 1) rows) around) few
 
-  pub cell_then : cell_joined row ≡ cell_of function (bags key)
+  pub cell_then : cell_shared row ≡ cell_of function (bags key)
   cell_then =
       row_cell function bags bag (take place rows) row row (drop (place + 1) rows) around
       ∙ ap (λ k. cell_of function (bags k)) same
 
 -- the last row has the key
-module _ (function : AggFn) (bags : Bags-of) (bag : List ℤ) (before : List Joined) (row : Joined) (key : Key)
-    (j : AreJoined function bags (before ++ row ∷ [])) (same : key_of row ≡ key) where
+module _ (function : AggFn) (bags : Bags-of) (bag : List ℤ) (before : List ShareForm) (row : ShareForm) (key : Key)
+    (j : AreJoined function bags (before ++ row ∷ [])) (same : shared_key row ≡ key) where
   pub last_bag : length (bags key) < BAG_LIMIT → IsBag (bags key)
   last_bag few =
       subst (λ k. length (bags k) < BAG_LIMIT → IsBag (bags k)) same
       (row_bag function bags bag before row row [] j) few
 
-  pub last_cell : cell_joined row ≡ cell_of function (bags key)
+  pub last_cell : cell_shared row ≡ cell_of function (bags key)
   last_cell = row_cell function bags bag before row row [] j ∙ ap (λ k. cell_of function (bags k)) same
 
-  pub merged_last : (new : Joined) → key_of new ≡ key_of row → cell_joined new ≡ cell_of function (bags key ++ bag)
+  pub merged_last : (new : ShareForm) → shared_key new ≡ shared_key row → cell_shared new ≡ cell_of function (bags key ++ bag)
       → IsBag bag
       → AreJoined function (joined_at key bag bags) (before ++ new ∷ [])
   merged_last new e cell own =
@@ -284,10 +284,10 @@ module _ (function : AggFn) (bags : Bags-of) (bag : List ℤ) (before : List Joi
       (merged function bags bag before row new [] j e
       (cell ∙ ap (λ k. cell_of function (bags k ++ bag)) (sym same)) own)
 
-pub pushed_at : (function : AggFn) (bags : Bags-of) (bag : List ℤ) (rows : List Joined) (key : Key) (new : Joined)
+pub pushed_at : (function : AggFn) (bags : Bags-of) (bag : List ℤ) (rows : List ShareForm) (key : Key) (new : ShareForm)
     → AreJoined function bags rows → NoneAfter key (keys_of rows)
-    → ((d : Joined) → 0 < length rows → same_key (key_of (get_or rows (length rows - 1) d)) key ≡ false)
-    → key_of new ≡ key → cell_joined new ≡ cell_of function bag → IsBag bag
+    → ((d : ShareForm) → 0 < length rows → same_key (shared_key (get_or rows (length rows - 1) d)) key ≡ false)
+    → shared_key new ≡ key → cell_shared new ≡ cell_of function bag → IsBag bag
     → AreJoined function (joined_at key bag bags) (rows ++ new ∷ [])
 pushed_at function bags bag rows key new j none apart e cell own =
     let below = all_below_end rows key j.rising none apart in
@@ -297,11 +297,11 @@ pushed_at function bags bag rows key new j none apart e cell own =
     (subst (AllBelow (keys_of rows)) (sym e) below) tt cell own)
 
 -- before all shares nothing is joined
-pub none_joined : (function : AggFn) (bags : Bags-of) (rows : List Joined) → rows ≡ []
+pub none_joined : (function : AggFn) (bags : Bags-of) (rows : List ShareForm) → rows ≡ []
     → ((key : Key) → bags key ≡ [])
     → AreJoined function bags rows
 none_joined function bags rows e none =
-    let P : List Joined → Type 0 = λ xs. AreJoined function bags xs in
+    let P : List ShareForm → Type 0 = λ xs. AreJoined function bags xs in
     subst P (sym e) (record {
       rising = tt;
       has = λ key. ((λ (k, lt, e). absurd (omega arith)), (λ some. absurd (some (none key))));
@@ -310,7 +310,7 @@ none_joined function bags rows e none =
     })
 
 -- rows are joined from bags that are the same
-pub joined_alike : (function : AggFn) (bags other : Bags-of) (rows : List Joined)
+pub joined_alike : (function : AggFn) (bags other : Bags-of) (rows : List ShareForm)
     → ((key : Key) → bags key ≡ other key) → AreJoined function bags rows → AreJoined function other rows
 joined_alike function bags other rows h j =
     let same : bags ≡ other = (λ i key. h key i) in subst (λ b. AreJoined function b rows) same j

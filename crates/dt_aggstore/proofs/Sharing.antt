@@ -1,12 +1,12 @@
 -- Shares, and the bags that they are of.
-use Rattle.std.proofs.Common.{◌≡◌, ℕ, ◌<◌, ◌≤◌, ◌⊎◌, ⊎_elim, inl, inr, ℤ, Bool, true, false, cond}
+use Rattle.std.proofs.Common.{◌≡◌, ℕ, ◌+◌, ◌<◌, ◌≤◌, ◌⊎◌, ⊎_elim, inl, inr, ℤ, Bool, true, false, cond}
 use Rattle.std.proofs.Common.{List, [], ◌∷◌, ◌++◌, length, get_or, take, refl, sym, ap, ◌∙◌, subst, arith}
 use Rattle.std.proofs.Common.{Ordering, Less, is_lt}
-use Rattle.std.specs.Prelude.{filter, Contains}
+use Rattle.std.specs.Prelude.{filter, map, All, Contains}
 use Rattle.std.specs.List.{AllByRecursion, AllZip, flat_map}
-use Rattle.std.specs.List.Sorted.{IsSortedByKey}
+use Rattle.std.specs.List.Sorted.{IsSortedBy, IsSortedByKey}
 use Rattle.std.proofs.lemmas.Bool.{false≢true}
-use Rattle.std.proofs.lemmas.List.{append-nil, get_or-take, get_or_default, length-append, length-take-le}
+use Rattle.std.proofs.lemmas.List.{append-nil, get_or-map, get_or-take, get_or_default, length-append, length-map, length-take-le}
 use Rattle.std.proofs.lemmas.List.Elements.{filter-append}
 use Rattle.std.proofs.lemmas.List.Sorted.{ranks_by, sorted_far}
 use Rattle.std.proofs.lemmas.Grind.{flat_map-append}
@@ -14,8 +14,7 @@ use Rattle.dt_aggfn.specs.declared.function.AggFn.{AggFn}
 use Rattle.dt_aggfn.specs.Cells.{cell_of, IsBag}
 use Rattle.dt_aggstore.specs.Keys.{key_cmp, same_key, IsBelow}
 use Rattle.dt_aggstore.specs.Joining.{cell_shared, AreJoined, AreShares, MakeBag, NoneAfter, joined_at, keys_of, shared_key}
-use Rattle.dt_aggstore.specs.declared.joining.Joined.{Joined}
-use Rattle.dt_aggstore.specs.declared.share.KeyShare.{KeyShare}
+use Rattle.dt_aggstore.specs.Shares.{ShareForm}
 use Rattle.dt_aggstore.proofs.Same.{key_decides}
 use Rattle.dt_aggstore.proofs.Filters.{yes_or_no}
 use Rattle.dt_aggstore.proofs.Rising.{Key, keys_total, contains_later}
@@ -25,21 +24,21 @@ abbrev Bags-of : Type 0
 Bags-of = Key → List ℤ
 
 -- whether a share has a key
-abbrev pub has_key : Key → KeyShare → Bool
+abbrev pub has_key : Key → ShareForm → Bool
 has_key key share = same_key (shared_key share) key
 
-abbrev Has-cell : AggFn → KeyShare → List ℤ → Type 0
+abbrev Has-cell : AggFn → ShareForm → List ℤ → Type 0
 Has-cell function share part = IsBag part × (cell_shared share ≡ cell_of function part)
 
 -- shares are of bags that are the same
-pub shared_alike : (function : AggFn) (bags other : Bags-of) (shares : List KeyShare)
+pub shared_alike : (function : AggFn) (bags other : Bags-of) (shares : List ShareForm)
     → ((key : Key) → bags key ≡ other key) → AreShares function bags shares → AreShares function other shares
 shared_alike function bags other shares h a = λ key. subst (MakeBag function (filter (has_key key) shares)) (h key)
     (a key)
 
 -- ---- none
 
-pub none_shared : (function : AggFn) (bags : Bags-of) (shares : List KeyShare) → shares ≡ []
+pub none_shared : (function : AggFn) (bags : Bags-of) (shares : List ShareForm) → shares ≡ []
     → ((key : Key) → bags key ≡ []) → AreShares function bags shares
 none_shared function bags shares e none = λ key.
     subst (λ xs. MakeBag function (filter (has_key key) xs) (bags key)) (sym e)
@@ -67,7 +66,7 @@ joined_push parts last =
     flat_map-append (λ (part : List ℤ). part) parts (last ∷ [])
     ∙ ap (λ xs. flat_map (λ part. part) parts ++ xs) (append-nil last)
 
-made_more : (function : AggFn) (bag last : List ℤ) (shares : List KeyShare) (share : KeyShare)
+made_more : (function : AggFn) (bag last : List ℤ) (shares : List ShareForm) (share : ShareForm)
     → MakeBag function shares bag → Has-cell function share last
     → MakeBag function (shares ++ share ∷ []) (bag ++ last)
 made_more function bag last shares share m has = record {
@@ -76,7 +75,7 @@ made_more function bag last shares share m has = record {
   joined = ap (λ xs. xs ++ last) m.joined ∙ sym (joined_push m.parts last);
 }
 
-module _ (function : AggFn) (bags : Bags-of) (bag : List ℤ) (shares : List KeyShare) (share : KeyShare) where
+module _ (function : AggFn) (bags : Bags-of) (bag : List ℤ) (shares : List ShareForm) (share : ShareForm) where
   pub shared_more : AreShares function bags shares → IsBag bag → cell_shared share ≡ cell_of function bag
       → AreShares function (joined_at (shared_key share) bag bags) (shares ++ share ∷ [])
   shared_more so_far own cell = λ key.
@@ -103,7 +102,7 @@ zip_pop R (w ∷ xs) x (y ∷ ys) a =
     (y ∷ rest.0, rest.1, ap (λ zs. y ∷ zs) rest.2, (a.0, rest.3), rest.4)
 
 -- what shares make before the last one, and what that one has
-pub record Before (function : AggFn) (shares : List KeyShare) (share : KeyShare) (bag : List ℤ) : Type 0 where
+pub record Before (function : AggFn) (shares : List ShareForm) (share : ShareForm) (bag : List ℤ) : Type 0 where
   pub front : List ℤ
   pub last : List ℤ
   pub made : MakeBag function shares front
@@ -111,7 +110,7 @@ pub record Before (function : AggFn) (shares : List KeyShare) (share : KeyShare)
   pub cell : cell_shared share ≡ cell_of function last
   pub whole : front ++ last ≡ bag
 
-made_before : (function : AggFn) (bag : List ℤ) (shares : List KeyShare) (share : KeyShare)
+made_before : (function : AggFn) (bag : List ℤ) (shares : List ShareForm) (share : ShareForm)
     → MakeBag function (shares ++ share ∷ []) bag → Before function shares share bag
 made_before function bag shares share m =
     let two = zip_pop (Has-cell function) shares share m.parts m.cells in
@@ -124,7 +123,7 @@ made_before function bag shares share m =
       whole = sym (m.joined ∙ ap (flat_map (λ part. part)) two.2 ∙ joined_push two.0 two.1);
     }
 
-module _ (function : AggFn) (bags : Bags-of) (shares : List KeyShare) (share : KeyShare)
+module _ (function : AggFn) (bags : Bags-of) (shares : List ShareForm) (share : ShareForm)
     (all : AreShares function bags (shares ++ share ∷ [])) where
   abbrev Own-key : Key
   Own-key = shared_key share
@@ -177,8 +176,28 @@ module _ (function : AggFn) (bags : Bags-of) (shares : List KeyShare) (share : K
 -- ---- in order
 
 -- whether a share's key comes before another's
-abbrev pub comes_before : KeyShare → KeyShare → Bool
+abbrev pub comes_before : ShareForm → ShareForm → Bool
 comes_before a b = is_lt (key_cmp (shared_key a) (shared_key b))
+
+-- what shares hold is in order where they are
+pub sorted_told : {S : Type 0} (told : S → ShareForm) (shares : List S)
+    → IsSortedBy (λ a b. comes_before (told a) (told b)) shares → IsSortedByKey shared_key key_cmp (map told shares)
+sorted_told told [] sorted = λ k d low high. absurd (omega (arith, high))
+sorted_told told (first ∷ later) sorted = λ k d low high.
+    let shares = first ∷ later in
+    let long = length-map shares told in
+    ap (λ x. comes_before x (get_or (map told shares) k d)) (get_or-map told shares (k + 1) first d (omega (arith, high, long)))
+    ∙ ap (comes_before (told (get_or shares (k + 1) first))) (get_or-map told shares k first d (omega (arith, high, long)))
+    ∙ sorted k first low (omega (arith, high, long))
+
+-- one of some shares has as many words as all
+pub words_told : {S : Type 0} (told : S → ShareForm) (words : ℕ) (shares : List S)
+    → All (λ share. length (cell_shared share) ≡ words) (map told shares)
+    → (i : ℕ) (share : S) → i < length shares → share ≡ get_or shares i share → length (cell_shared (told share)) ≡ words
+words_told told words shares all i share here is =
+    ap (λ s. length (cell_shared (told s))) is
+    ∙ ap (λ s. length (cell_shared s)) (sym (get_or-map told shares i share (told share) here))
+    ∙ all i (told share) (omega (arith, here, length-map shares told))
 
 -- a filter keeps nothing, or there is something that passes
 filtered : {X : Type 0} (p : X → Bool) (xs : List X) → (filter p xs ≡ []) ⊎ ((x : X) × Contains xs x × (p x ≡ true))
@@ -200,7 +219,7 @@ all_from P (x ∷ xs) h = (h x (contains_here x xs), all_from P xs (λ y c. h y 
 lt_from_less : (o : Ordering) → is_lt o ≡ false → o ≡ Less → ⊥
 lt_from_less o e f = false≢true (sym e ∙ ap is_lt f)
 
-pub none_after : (function : AggFn) (bags : Bags-of) (shares : List KeyShare) (n : ℕ) (share : KeyShare) (rows : List Joined)
+pub none_after : (function : AggFn) (bags : Bags-of) (shares : List ShareForm) (n : ℕ) (share : ShareForm) (rows : List ShareForm)
     → n < length shares → share ≡ get_or shares n share → IsSortedByKey shared_key key_cmp shares
     → AreShares function bags (take n shares) → AreJoined function bags rows
     → NoneAfter (shared_key share) (keys_of rows)
@@ -211,7 +230,7 @@ none_after function bags shares n share rows here is sorted a j =
     (λ some. by key some.0 some.1 some.2)
     (filtered (has_key key) (take n shares)))
   where
-    by : (key : Key) (x : KeyShare) → Contains (take n shares) x → has_key key x ≡ true
+    by : (key : Key) (x : ShareForm) → Contains (take n shares) x → has_key key x ≡ true
         → IsBelow (shared_key share) key → ⊥
     by key x (k, lt, e) own below =
         let short : length (take n shares) ≡ n = length-take-le n shares (omega arith) in

@@ -21,6 +21,7 @@ use Rattle.dt_aggstore.proofs.Filters.{yes_or_no}
 use Rattle.dt_aggstore.proofs.Choices.{is_choice}
 use Rattle.dt_aggstore.proofs.Rising.{Key, keys_total, key_exact, below_chain, all_weaker, contains_cases}
 use Rattle.dt_aggstore.proofs.Rising.{contains_here, contains_later}
+use Rattle.dt_aggstore.proofs.Tables.{one_table}
 
 -- ---- a key is put among others in rising order
 
@@ -256,3 +257,9 @@ is_table pasts aggregation =
 pub some_table : (pasts : List Past) (aggregation : Aggregation)
     → (rows : List RowForm) × IsTable pasts aggregation rows
 some_table pasts aggregation = (table_of pasts aggregation, is_table pasts aggregation)
+
+-- a table of pasts is the one that the definition makes of them
+pub table_value : (pasts : List Past) (aggregation : Aggregation) (rows : List RowForm) → IsTable pasts aggregation rows
+    → rows ≡ table_of pasts aggregation
+table_value pasts aggregation rows table =
+    one_table pasts aggregation rows (table_of pasts aggregation) table (is_table pasts aggregation)

@@ -15,8 +15,7 @@ use Rattle.dt_aggstore.specs.IsAt.{IsAt}
 use Rattle.dt_aggstore.specs.Joining.{keys_of, AreJoined, AreShares, MakesRows}
 use Rattle.dt_aggstore.specs.declared.limits.TheConstants.{ADDED_LIMIT}
 use Rattle.dt_aggstore.specs.declared.key.Aggregation.{Aggregation}
-use Rattle.dt_aggstore.specs.declared.joining.Joined.{Joined}
-use Rattle.dt_aggstore.specs.declared.share.KeyShare.{KeyShare}
+use Rattle.dt_aggstore.specs.Shares.{ShareForm}
 use Rattle.dt_aggstore.specs.declared.store.AggStore.{AggStore}
 use Rattle.dt_aggstore.proofs.Filters.{yes_or_no}
 use Rattle.dt_aggstore.proofs.Distinct.{has, has-distinct, has_from_contains, contains_from_has}
@@ -161,7 +160,7 @@ module _ (aggregation : Aggregation) where
 
 -- ---- the table
 
-made_keys : (function : AggFn) (bags : Key → List ℤ) (rows : List Joined) (forms : List RowForm)
+made_keys : (function : AggFn) (bags : Key → List ℤ) (rows : List ShareForm) (forms : List RowForm)
     → MakesRows function bags rows forms → map (λ (row : RowForm). row.key) forms ≡ keys_of rows
 made_keys function bags [] [] m = refl
 made_keys function bags [] (f ∷ forms) m = absurd m
@@ -169,7 +168,7 @@ made_keys function bags (r ∷ rows) [] m = absurd m
 made_keys function bags (r ∷ rows) (f ∷ forms) m =
     let rest = made_keys function bags rows forms m.1 in λ i. m.0.0 i ∷ rest i
 
-made_answers : (function : AggFn) (bags : Key → List ℤ) (rows : List Joined) (forms : List RowForm)
+made_answers : (function : AggFn) (bags : Key → List ℤ) (rows : List ShareForm) (forms : List RowForm)
     → MakesRows function bags rows forms
     → AllByRecursion (λ row. row.value ≡ answer_of_bag function (bags row.key)) forms
 made_answers function bags [] [] m = tt
@@ -178,7 +177,7 @@ made_answers function bags (r ∷ rows) [] m = absurd m
 made_answers function bags (r ∷ rows) (f ∷ forms) m =
     (m.0.1 ∙ ap (λ k. answer_of_bag function (bags k)) (sym m.0.0), made_answers function bags rows forms m.1)
 
-pub table_is : (aggregation : Aggregation) (pasts : List Past) (choices : List (List Bool)) (rows : List Joined)
+pub table_is : (aggregation : Aggregation) (pasts : List Past) (choices : List (List Bool)) (rows : List ShareForm)
     (forms : List RowForm) → AllZip IsChoice pasts choices
     → AreJoined aggregation.function (λ key. joined_bag aggregation key pasts choices) rows
     → MakesRows aggregation.function (λ key. joined_bag aggregation key pasts choices) rows forms
@@ -267,14 +266,14 @@ one_table pasts aggregation rows other t u =
 -- ---- a store is shared
 
 -- what a store's shares do to shares
-abbrev pub SharesStore : Aggregation → List KeyShare → List KeyShare → AggStore → Type 0
+abbrev pub SharesStore : Aggregation → List ShareForm → List ShareForm → AggStore → Type 0
 SharesStore aggregation shares shares' store =
     (past : Past) (at : IsAt past store) (bags : Key → List ℤ) → AreShares aggregation.function bags shares
     → AreShares aggregation.function (λ key. bags key ++ bag past.events at.chosen aggregation key) shares'
 
 pub store_shared : (aggregation : Aggregation) (pasts : List Past) (stores : List AggStore) (at :
     AllZip IsAt pasts stores)
-    (i : ℕ) (store : AggStore) (shares shares' : List KeyShare) → i < length stores → store ≡ get_or stores i store
+    (i : ℕ) (store : AggStore) (shares shares' : List ShareForm) → i < length stores → store ≡ get_or stores i store
     → SharesStore aggregation shares shares' store
     → AreShares aggregation.function (Bags-to aggregation pasts stores at i) shares
     → AreShares aggregation.function (Bags-to aggregation pasts stores at (i + 1)) shares'
@@ -288,7 +287,7 @@ store_shared aggregation pasts stores at i store shares shares' here is joins so
 -- all stores were shared
 pub all_shared : (aggregation : Aggregation) (pasts : List Past) (stores : List AggStore) (at :
     AllZip IsAt pasts stores) (n : ℕ)
-    (shares : List KeyShare) → length stores ≤ n
+    (shares : List ShareForm) → length stores ≤ n
     → AreShares aggregation.function (Bags-to aggregation pasts stores at n) shares
     → AreShares aggregation.function (λ key. joined_bag aggregation key pasts (choices_of pasts stores at)) shares
 all_shared aggregation pasts stores at n shares all j =

@@ -27,3 +27,12 @@ parts_told places = parts_before_none (map part_told places)
 abbrev pub words_held : ShareCell → List ℕ
 words_held (Word words) = words
 words_held (Words words) = words.now
+
+-- what a share holds: a key, and the cell that one store has of it
+pub record ShareForm : Type 0 where
+  pub key : List KeyPart
+  pub cell : List ℕ
+
+-- the share whose parts these places have, with this cell
+abbrev pub share_told : List PartShare → ShareCell → ShareForm
+share_told places cell = record { key = parts_told places; cell = words_held cell }

@@ -1,13 +1,13 @@
 //! Rows while a table is made.
-ghost use Rattle.std.specs.Prelude.{◌≡◌, ◌<◌, ℤ, List, [], ◌∷◌, length, ◌++◌, IfOk, All};
+ghost use Rattle.std.specs.Prelude.{◌≡◌, ◌<◌, ℤ, List, [], ◌∷◌, length, ◌++◌, map, IfOk, All};
 ghost use Rattle.std.specs.List.Sorted.{IsSortedByKey};
-ghost use Rattle.dt_aggstore.specs.Joining.{cell_joined, cell_shared, keys_of, joined_at, shared_key, AreShares, AreUnderWay, IsAnswerRow, AreRowsOf, NoneAfter};
+ghost use Rattle.dt_aggstore.specs.Joining.{cell_shared, keys_of, joined_at, joined_told, shared_key, AreShares, AreUnderWay, IsAnswerRow, AreRowsOf, NoneAfter};
 ghost use Rattle.dt_aggstore.specs.Keys.{key_cmp};
 ghost use Rattle.dt_aggfn.specs.Cells.{cell_words, cell_of, IsBag};
 ghost use Rattle.dt_aggfn.specs.declared.limits.TheConstants.{BAG_LIMIT};
 ghost use Rattle.dt_aggstore.specs.declared.key.KeyPart.{KeyPart};
-ghost use Rattle.dt_aggstore.specs.declared.share.KeyShare.{KeyShare};
 
+use crate::places::{are_same, row_key};
 use crate::row::Row;
 use crate::share::KeyShare;
 use dt_aggfn::AggFn;
@@ -15,16 +15,16 @@ use std::alloc::{AllocError, Global};
 
 /// The first share of a key, with the shares that were joined to it.
 #[derive(Drop)]
-pub(crate) struct Joined<'a> {
-    share: &'a KeyShare<'a>,
+pub(crate) struct Joined<'s, S> {
+    share: &'s S,
     /// The cell of all values that were joined so far. Where there is one share, it is that one's, and no copy is made.
     more: Option<Vec<u64>>,
 }
 
-impl<'a> Joined<'a> {
+impl<'s, S: KeyShare> Joined<'s, S> {
     /// The cell of all values that were joined so far.
     fn cell(&self) -> &[u64]
-        ensures { result.now ≡ cell_joined self.now }
+        ensures { result.now ≡ (joined_told S.told self.now).cell }
     {
         match &self.more {
             Some(cell) => cell,
@@ -34,14 +34,19 @@ impl<'a> Joined<'a> {
 
     /// The same with the cell of a share. `Err`: there was no memory for it.
     #[inline(never)]
-    fn merged(self, alloc: Global, function: AggFn, other: &[u64]) -> Result<Joined<'a>, AllocError>
-        requires own { length (cell_joined self) ≡ cell_words function }
+    fn merged(
+        self,
+        alloc: Global,
+        function: AggFn,
+        other: &[u64],
+    ) -> Result<Joined<'s, S>, AllocError>
+        requires own { length (joined_told S.told self).cell ≡ cell_words function }
         requires others { length other.now ≡ cell_words function }
         ensures share { IfOk result (λ joined. joined.share ≡ self.entry.share) }
-        ensures words { IfOk result (λ joined. length (cell_joined joined) ≡ cell_words function) }
+        ensures words { IfOk result (λ joined. length (joined_told S.told joined).cell ≡ cell_words function) }
         ensures cell { (bag other_bag : List ℤ) → IsBag bag → IsBag other_bag
-            → cell_joined self.entry ≡ cell_of function bag → other.now ≡ cell_of function other_bag
-            → IfOk result (λ joined. cell_joined joined ≡ cell_of function (bag ++ other_bag)) }
+            → (joined_told S.told self.entry).cell ≡ cell_of function bag → other.now ≡ cell_of function other_bag
+            → IfOk result (λ joined. (joined_told S.told joined).cell ≡ cell_of function (bag ++ other_bag)) }
     {
         let share = self.share;
         let mut cell = match self.more {
@@ -58,30 +63,31 @@ impl<'a> Joined<'a> {
     /// Its row, with what the function answers. `Err`: there was no memory for it.
     #[inline(always)]
     fn row(&self, alloc: Global, function: AggFn) -> Result<Row, AllocError>
-        requires { length (cell_joined self.now) ≡ cell_words function }
-        ensures { IfOk result (IsAnswerRow function self.now) }
+        requires { length (joined_told S.told self.now).cell ≡ cell_words function }
+        ensures { IfOk result (IsAnswerRow function (joined_told S.told self.now)) }
     {
         Ok(Row {
-            key: self.share.key(alloc)?,
+            key: row_key(alloc, self.share.parts())?,
             value: function.answer(alloc, self.cell())?,
         })
     }
 }
 
 /// The rows of shares that are in order of key. `Err`: there was no memory for them.
-pub(crate) fn rows_of<'a>(
+pub(crate) fn rows_of<'s, S: KeyShare>(
     alloc: Global,
     function: AggFn,
-    shares: &'a [KeyShare<'a>],
+    shares: &'s [S],
 ) -> Result<Vec<Row>, AllocError>
-    requires words { All (λ (share : KeyShare). length (cell_shared share) ≡ cell_words function) shares.now }
-    requires sorted { IsSortedByKey shared_key key_cmp shares.now }
+    requires words { All (λ share. length (cell_shared share) ≡ cell_words function) (map S.told shares.now) }
+    requires sorted { IsSortedByKey shared_key key_cmp (map S.told shares.now) }
     // where shares are of bags, the rows are joined from those
-    ensures { (bags : List KeyPart → List ℤ) → AreShares function bags shares.now
+    ensures { (bags : List KeyPart → List ℤ) → AreShares function bags (map S.told shares.now)
         → ((key : List KeyPart) → length (bags key) < BAG_LIMIT)
         → IfOk result (λ rows. AreRowsOf function bags rows.items) }
 {
-    let rows = Vec::new(alloc);
+    // at most one row for each share
+    let rows = Vec::with_capacity(alloc, shares.len())?;
     match shares {
         [] => Ok(rows),
         [first, later @ ..] => rows_from(alloc, function, rows, first, later),
@@ -89,18 +95,18 @@ pub(crate) fn rows_of<'a>(
 }
 
 /// The rows of a first share and of later ones. `Err`: there was no memory for them.
-fn rows_from<'a>(
+fn rows_from<'s, S: KeyShare>(
     alloc: Global,
     function: AggFn,
     mut rows: Vec<Row>,
-    first: &'a KeyShare<'a>,
-    later: &'a [KeyShare<'a>],
+    first: &'s S,
+    later: &'s [S],
 ) -> Result<Vec<Row>, AllocError>
     requires empty { rows.items ≡ [] }
-    requires first_words { length (cell_shared first.now) ≡ cell_words function }
-    requires words { All (λ (share : KeyShare). length (cell_shared share) ≡ cell_words function) later.now }
-    requires sorted { IsSortedByKey shared_key key_cmp (first.now ∷ later.now) }
-    ensures { (bags : List KeyPart → List ℤ) → AreShares function bags (first.now ∷ later.now)
+    requires first_words { length (S.told first.now).cell ≡ cell_words function }
+    requires words { All (λ share. length (cell_shared share) ≡ cell_words function) (map S.told later.now) }
+    requires sorted { IsSortedByKey shared_key key_cmp (S.told first.now ∷ map S.told later.now) }
+    ensures { (bags : List KeyPart → List ℤ) → AreShares function bags (S.told first.now ∷ map S.told later.now)
         → ((key : List KeyPart) → length (bags key) < BAG_LIMIT)
         → IfOk result (λ rows. AreRowsOf function bags rows.items) }
 {
@@ -118,26 +124,27 @@ fn rows_from<'a>(
 /// Joins a share to the last that was joined, if it is of the same key. Otherwise the last one's row is made, and this share is
 /// the last. `Err`: there was no memory for it.
 #[inline(always)]
-fn join<'a>(
+fn join<'s, S: KeyShare>(
     alloc: Global,
     function: AggFn,
     rows: &mut Vec<Row>,
-    last: Joined<'a>,
-    share: &'a KeyShare<'a>,
-) -> Result<Joined<'a>, AllocError>
-    requires own { length (cell_joined last) ≡ cell_words function }
-    requires others { length (cell_shared share.now) ≡ cell_words function }
-    ensures words { IfOk result (λ joined. length (cell_joined joined) ≡ cell_words function) }
+    last: Joined<'s, S>,
+    share: &'s S,
+) -> Result<Joined<'s, S>, AllocError>
+    requires own { length (joined_told S.told last).cell ≡ cell_words function }
+    requires others { length (S.told share.now).cell ≡ cell_words function }
+    ensures words { IfOk result (λ joined. length (joined_told S.told joined).cell ≡ cell_words function) }
     // Rows joined from bags, of which none comes after the share's key, are those of the same bags with the share's added at
     // its key.
     ensures joins { (bags : List KeyPart → List ℤ) (bag : List ℤ)
-        → (so_far : AreUnderWay function bags last.entry rows.old.items)
-        → NoneAfter (shared_key share.now) (keys_of (so_far.done ++ last.entry ∷ []))
-        → length (bags (shared_key share.now)) < BAG_LIMIT
-        → IsBag bag → cell_shared share.now ≡ cell_of function bag
-        → IfOk result (λ joined. AreUnderWay function (joined_at (shared_key share.now) bag bags) joined rows.new.items) }
+        → (so_far : AreUnderWay function bags (joined_told S.told last.entry) rows.old.items)
+        → NoneAfter (S.told share.now).key (keys_of (so_far.done ++ joined_told S.told last.entry ∷ []))
+        → length (bags (S.told share.now).key) < BAG_LIMIT
+        → IsBag bag → (S.told share.now).cell ≡ cell_of function bag
+        → IfOk result (λ joined. AreUnderWay function (joined_at (S.told share.now).key bag bags)
+        (joined_told S.told joined) rows.new.items) }
 {
-    if last.share.has_key_of(share) {
+    if are_same(last.share.parts(), share.parts()) {
         return last.merged(alloc, function, share.cell());
     }
     rows.push(last.row(alloc, function)?)?;

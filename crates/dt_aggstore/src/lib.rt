@@ -18,10 +18,12 @@ mod laws;
 mod limit_laws;
 mod limits;
 mod part_share;
+mod places;
 mod recent_texts;
 mod row;
 mod share;
 mod share_cell;
+mod sized_shares;
 mod store;
 mod table;
 

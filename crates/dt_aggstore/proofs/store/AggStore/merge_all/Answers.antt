@@ -1,73 +1,25 @@
--- One store more is shared.
-use Rattle.std.proofs.Common.{◌≡◌, ◌<◌, ℤ, List, length, refl, sym, subst, arith}
-use Rattle.std.specs.Prelude.{All, map}
-use Rattle.dt_aggfn.specs.declared.limits.TheConstants.{BAG_LIMIT}
+-- A table of the pasts is the one that the definition makes of them.
+use Rattle.std.proofs.Common.{subst}
+use Rattle.std.specs.Prelude.{map, IfSome}
 use Rattle.dt_aggstore.specs.EntryNames.{form_of_row}
-use Rattle.dt_aggstore.specs.Table.{joined_bag}
-use Rattle.dt_aggstore.specs.Joining.{cell_shared, AreShares}
-use Rattle.dt_aggstore.specs.declared.share.KeyShare.{KeyShare}
-use Rattle.dt_aggfn.specs.Cells.{cell_words}
-use Rattle.std.proofs.lemmas.List.Elements.{All-nil}
-use Rattle.std.proofs.lemmas.List.Sorted.{length_permutation}
-use Rattle.dt_aggstore.proofs.Sharing.{none_shared}
-use Rattle.dt_aggstore.proofs.Anew.{joined_anew}
-use Rattle.dt_aggstore.proofs.Rows.{rows_made}
-use Rattle.std.proofs.lemmas.Result.{IfOk-weaker}
-use Rattle.dt_aggstore.proofs.Rising.{Key}
-use Rattle.dt_aggstore.proofs.Tables.{choices_of, choices_are, store_shared, all_shared, all_short}
-use Rattle.dt_aggstore.proofs.Tables.{table_is, one_table}
-use Rattle.dt_aggstore.proofs.SomeTables.{is_table}
-use Rattle.dt_aggstore.specs.TableOf.{table_of}
+use Rattle.dt_aggstore.specs.Table.{IsTable}
+use Rattle.dt_aggstore.proofs.SomeTables.{table_value}
 use Rattle.dt_aggstore.proofs.store.AggStore.merge_all.Goals as goal
 
-pub loop-store-init : goal.loop-store-init
-loop-store-init c = record {
-  words = subst (All (λ (share : KeyShare). length (cell_shared share) ≡ cell_words c.args.aggregation.function))
-      (sym c.in_ok-shares.ensures.items)
-      (All-nil (λ (share : KeyShare). length (cell_shared share) ≡ cell_words c.args.aggregation.function));
-  shares = λ pasts at. none_shared c.args.aggregation.function _ c.in_ok-shares.shares.items
-      c.in_ok-shares.ensures.items (λ key. refl);
-}
+pub returns-in-Some-clause-value : goal.returns-in-Some-clause-value
+returns-in-Some-clause-value c = λ pasts at.
+    table_value pasts c.args.aggregation (map form_of_row c.in-Some.rows.items)
+    (subst (λ made. IfSome made (λ rows. IsTable pasts c.args.aggregation (map form_of_row rows.items))) c.in-Some.is
+    (c.in_ok-rows.ensures.table pasts at))
 
-pub loop-store-preserved : goal.loop-store-preserved
-loop-store-preserved c = record {
-  words = c.in_ok-share_into.ensures.words c.loop-store.invariant.words;
-  shares = λ pasts at.
-      store_shared c.args.aggregation pasts c.args.stores.now at c.loop-store.store-index c.store-item.result
-      c.loop-store.shares.items c.share_into.new.shares.items c.loop-store-test.true c.store-item.is
-      c.in_ok-share_into.ensures.shares (c.loop-store.invariant.shares pasts at);
-}
-
-pub rows_of-requires-clause-words : goal.rows_of-requires-clause-words
-rows_of-requires-clause-words c =
-    subst (All (λ (share : KeyShare). length (cell_shared share) ≡ cell_words c.args.aggregation.function))
-    (sym c.deref.ensures.value)
-    (c.sort.ensures.words (cell_words c.args.aggregation.function) c.loop-store.invariant.words)
-
-pub returns-clause-table : goal.returns-clause-table
-returns-clause-table c = λ pasts at.
-    let aggregation = c.args.aggregation in
-    let stores = c.args.stores.now in
-    let choices = choices_of pasts stores at in
-    let bags : Key → List ℤ = λ key. joined_bag aggregation key pasts choices in
-    let few : (key : Key) → length (bags key) < BAG_LIMIT =
-    λ key. omega (arith, c.requires, all_short aggregation pasts stores at key) in
-    let shares = all_shared aggregation pasts stores at c.loop-store.store-index c.loop-store.shares.items
-    c.loop-store-test.false (c.loop-store.invariant.shares pasts at) in
-    let anew = c.sort.ensures.bags aggregation.function bags shares in
-    let few_anew : (key : Key) → length (anew.others key) < BAG_LIMIT =
-    λ key. omega (arith, few key, length_permutation (bags key) (anew.others key) (anew.same key)) in
-    IfOk-weaker c.rows_of.result _ _
-    (λ made rows.
-    let j = joined_anew c.any_order.ensures.cell aggregation.function bags anew.others rows.done anew.same rows.joined in
-    table_is aggregation pasts choices rows.done (map form_of_row made.items) (choices_are pasts stores at) j
-    (rows_made aggregation.function bags rows.done made.items j few rows.made))
-    (c.rows_of.ensures anew.others
-    (subst (AreShares aggregation.function anew.others) (sym c.deref.ensures.value) anew.are) few_anew)
+pub returns-in-Some-2-clause-value : goal.returns-in-Some-2-clause-value
+returns-in-Some-2-clause-value c = λ pasts at.
+    table_value pasts c.args.aggregation (map form_of_row c.in-Some-2.rows.items)
+    (subst (λ made. IfSome made (λ rows. IsTable pasts c.args.aggregation (map form_of_row rows.items))) c.in-Some-2.is
+    (c.in_ok-rows-2.ensures.table pasts at))
 
 pub returns-clause-value : goal.returns-clause-value
 returns-clause-value c = λ pasts at.
-    IfOk-weaker c.rows_of.result _ _
-    (λ made table. one_table pasts c.args.aggregation (map form_of_row made.items)
-    (table_of pasts c.args.aggregation) table (is_table pasts c.args.aggregation))
-    (returns-clause-table c pasts at)
+    table_value pasts c.args.aggregation (map form_of_row c.unwrap.result.items)
+    (subst (λ made. IfSome made (λ rows. IsTable pasts c.args.aggregation (map form_of_row rows.items))) c.unwrap.ensures
+    (c.in_ok-table_by.ensures.table pasts at))
