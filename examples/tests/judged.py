@@ -34,7 +34,7 @@ def checked(path, trail, content):
 
 
 def longest_trail(folder):
-    """A session that asks as many lines as its quota allows and sees as many firings as a history can have; and changes at its end."""
+    """A session that asks as many lines as its quota allows and sees as many firings as a script may have; and changes at its end."""
     each = FIRINGS_MAX // CPUS
     path, trail = folder / "machine.json", folder / "trail"
     path.write_text(machine([[fired(place) for place in range(each)] for _cpu in range(CPUS)]))
