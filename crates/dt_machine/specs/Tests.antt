@@ -5,6 +5,7 @@ use Rattle.dt_cred.specs.Rights.{admits}
 use Rattle.dt_cred.specs.declared.account.Account.{Account}
 use Rattle.dt_cred.specs.declared.class.Class.{Class}
 use Rattle.dt_cred.specs.declared.class.Class.TheVariants.{Pid}
+use Rattle.dt_machine.specs.Limits.{first_probe_id}
 use Rattle.dt_machine.specs.Registry.{Registry, probe_of, process_of}
 use Rattle.dt_cred.specs.declared.firing.Firing.{Firing}
 
@@ -16,7 +17,7 @@ is_traced _ pid = true
 -- the firing belongs to the machine
 unfoldable pub belongs : Registry → Firing → Bool
 belongs registry firing =
-    nat_lt firing.cpu registry.cpus && (nat_le 3 firing.probe && (is_some (process_of registry firing.pid)
+    nat_lt firing.cpu registry.cpus && (nat_le first_probe_id firing.probe && (is_some (process_of registry firing.pid)
     && option_map_or (λ probe. is_traced probe.class firing.pid) (probe_of registry firing.probe) false))
 
 -- the account is shown the firing
