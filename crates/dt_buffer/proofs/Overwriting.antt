@@ -1,14 +1,14 @@
 -- One more record of a ring store: room is made and the record kept, or it is too long.
 use Rattle.std.proofs.Common.{◌≡◌, ℕ, ◌+◌, ◌-◌, ◌<◌, ◌≤◌, Bool, true, false, List, [], ◌∷◌, ◌++◌, length, drop, take, filter, min}
-use Rattle.std.proofs.Common.{nat_le, nat_lt, slice_get, Some, None, refl, sym, ap, ◌∙◌, subst, ⊎_elim, arith}
+use Rattle.std.proofs.Common.{suc, nat_le, nat_lt, slice_get, Some, None, refl, sym, ap, ◌∙◌, subst, ⊎_elim, arith}
 use Rattle.std.specs.List.{concat}
 use Rattle.std.proofs.lemmas.Bool.{cases_lt, le-leb, lt-leb, lt-ltb, le-ltb}
-use Rattle.std.proofs.lemmas.List.{append-nil, length_push, drop_all, drop_at, take_all}
-use Rattle.std.proofs.lemmas.List.Elements.{filter-append}
+use Rattle.std.proofs.lemmas.List.{append-nil, length_push, length-drop, drop_all, drop_at, take_all}
+use Rattle.std.proofs.lemmas.List.Elements.{filter-append, All-drop, All-push}
 use Rattle.circular_buffer.specs.Buffer.{Buffer, buffer, keep_last}
 use Rattle.dt_buffer.proofs.Endings.{ends_more, kept_more, lengths_more, some_ends, room_more, room_all, lengths_within}
 use Rattle.dt_buffer.specs.Beginning.{size_of}
-use Rattle.dt_buffer.specs.Ending.{IsLongestEnd, KeepsRing, fitting, too_long, lengths_of}
+use Rattle.dt_buffer.specs.Ending.{AreAllOf, IsLongestEnd, KeepsRing, fitting, too_long, lengths_of}
 use Rattle.dt_buffer.specs.Stores.{MakesRoom, RingIsAt}
 use Rattle.dt_buffer.specs.declared.ring.RingStore.{RingStore}
 
@@ -169,6 +169,51 @@ module _ (size : ℕ) (records : List (List ℕ)) (wanted : ℕ) (bytes lengths 
   pub room_places : length bytes + wanted ≤ size → 0 < wanted → length lengths < size
   room_places fits some = omega (arith, lengths_within size records wanted bytes lengths m)
 
+-- where all are the same, the first is, and the last that comes after it in its place
+pub first_of : (xs : List ℕ) (n : ℕ) → AreAllOf xs n → 0 < length xs → Some n ≡ slice_get xs 0
+first_of [] n same some = absurd (omega arith)
+first_of (x ∷ xs) n same some = ap Some (sym (same 0 x (omega arith)))
+
+pub turned : (xs : List ℕ) (n : ℕ) → AreAllOf xs n → 0 < length xs → xs ≡ drop 1 xs ++ n ∷ []
+turned [] n same some = absurd (omega arith)
+turned (x ∷ []) n same some = ap (λ k. k ∷ []) (same 0 x (omega arith))
+turned (x ∷ y ∷ ys) n same some =
+    ap (λ k. k ∷ y ∷ ys) (same 0 x (omega arith) ∙ sym (same 1 y (omega arith)))
+    ∙ ap (λ ks. y ∷ ks) (turned (y ∷ ys) n (λ k d within. same (suc k) d (omega (arith, within))) (omega arith))
+
+module _ (size : ℕ) (attempts : List (List ℕ)) (attempt : List ℕ) (old new : RingStore)
+    (s : RingIsAt size attempts old) where
+  -- of records of one length the oldest goes, and the newest takes its place
+  pub ring_turned : (left fits : ℕ) (mid : Buffer ℕ) → AreAllOf old.lengths.items (length attempt)
+      → 0 < length old.lengths.items → 0 < length attempt → length attempt ≤ size
+      → old.bytes.capacity < length old.bytes.items + length attempt
+      → left ≡ length old.bytes.items - length attempt
+      → mid ≡ buffer (keep_last left old.bytes.items) old.bytes.capacity
+      → fits ≡ min (length attempt) (mid.capacity - length mid.items)
+      → new.bytes ≡ buffer (mid.items ++ take fits attempt) mid.capacity
+      → new.lengths ≡ old.lengths → new.drops ≡ old.drops → RingIsAt size (attempts ++ attempt ∷ []) new
+  ring_turned left fits mid same some bytes short full left_is mid_is fits_is filled places counted =
+      let kept : List ℕ = keep_last left old.bytes.items in
+      let mid_items = ap (λ (b : Buffer ℕ). b.items) mid_is in
+      let mid_room = ap (λ (b : Buffer ℕ). b.capacity) mid_is in
+      let first = first_of old.lengths.items (length attempt) same some in
+      let m = room_step size (fitting size attempts) (length attempt) old.bytes.items old.lengths.items
+      (room_start size attempts (length attempt) old s) (length attempt) left kept (drop 1 old.lengths.items) first refl
+      left_is refl (omega (arith, s.room)) in
+      let less : length kept ≡ length old.bytes.items - (length old.bytes.items - left) =
+      length-drop (length old.bytes.items - left) old.bytes.items in
+      let there : length kept + length attempt ≤ size = omega (arith, less, s.room, s.shows.newest.fits, ap length s.shows.kept) in
+      ring_taken size attempts attempt old new s kept (drop 1 old.lengths.items) m there
+      (ap (λ (b : Buffer ℕ). b.capacity) filled ∙ mid_room ∙ s.room)
+      (ap (λ (b : Buffer ℕ). b.capacity) places ∙ s.places)
+      (ap (λ (b : Buffer ℕ). b.items) filled
+      ∙ ap (λ (xs : List ℕ). xs ++ take fits attempt) mid_items
+      ∙ ap (λ (xs : List ℕ). kept ++ xs)
+      (take_all fits attempt (omega (arith, fits_is, ap length mid_items, mid_room, there, s.room))))
+      (ap (λ (b : Buffer ℕ). b.items) places ∙ turned old.lengths.items (length attempt) same some
+      ∙ ap (λ xs. drop 1 old.lengths.items ++ xs) (sym (lengths_one attempt bytes)))
+      counted
+
 pub none_left : (xs : List ℕ) → slice_get xs 0 ≡ None → xs ≡ []
 none_left [] e = refl
 none_left (y ∷ ys) e = cc
@@ -224,3 +269,13 @@ module _ (size : ℕ) (attempts : List (List ℕ)) (attempt : List ℕ) (old mid
         put_with (ap (λ (b : Buffer ℕ). b.capacity) same)
         (ap (λ (b : Buffer ℕ). b.items) same ∙ sym (append-nil mid.lengths.items)
         ∙ ap (λ xs. mid.lengths.items ++ xs) (sym (lengths_nil attempt none)))
+
+-- all are the same after one more of them, however many are kept
+pub all_more : (xs : List ℕ) (n : ℕ) → AreAllOf xs n → AreAllOf (xs ++ n ∷ []) n
+all_more xs n same = All-push (λ k. k ≡ n) xs n same refl
+
+pub all_last : (xs : List ℕ) (n k : ℕ) → AreAllOf xs n → AreAllOf (keep_last k xs) n
+all_last xs n k same = All-drop (λ m. m ≡ n) (length xs - k) xs same
+
+pub all_rest : (xs : List ℕ) (n : ℕ) → AreAllOf xs n → AreAllOf (drop 1 xs) n
+all_rest xs n same = All-drop (λ m. m ≡ n) 1 xs same

@@ -1,6 +1,6 @@
 -- Which records a ring buffer keeps: the longest end that fits. Guide, Buffers and Buffering (ring policy); that a record
 -- longer than the buffer is dropped and overwrites nothing is this project's own.
-use Rattle.std.specs.Prelude.{◌≡◌, ℕ, ◌<◌, ◌≤◌, List, [], ◌∷◌, ◌++◌, length, drop, filter, nat_le, nat_lt}
+use Rattle.std.specs.Prelude.{◌≡◌, ℕ, ◌<◌, ◌≤◌, List, [], ◌∷◌, ◌++◌, All, length, drop, filter, nat_le, nat_lt}
 use Rattle.std.specs.List.{concat}
 use Rattle.dt_buffer.specs.Beginning.{size_of}
 
@@ -31,6 +31,10 @@ abbrev pub lengths_of : List (List ℕ) → List ℕ
 lengths_of [] = []
 lengths_of ([] ∷ records) = lengths_of records
 lengths_of ((byte ∷ bytes) ∷ records) = length (byte ∷ bytes) ∷ lengths_of records
+
+-- all of these lengths are the same
+abbrev pub AreAllOf : List ℕ → ℕ → Type 0
+AreAllOf lengths each = All (λ len. len ≡ each) lengths
 
 -- The bytes of the records that a ring buffer holds, and the lengths of those that have bytes, the oldest first.
 pub record HoldsRing (size : ℕ) (attempts : List (List ℕ)) (bytes lengths : List ℕ) : Type 0 where

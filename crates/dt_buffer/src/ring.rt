@@ -1,5 +1,8 @@
 //! The store of a buffer under the ring policy.
-ghost use Rattle.std.specs.Prelude.{◌≡◌, ◌+◌, ◌<◌, ◌≤◌, ◌↔◌, ℕ, List, [], ◌∷◌, ◌++◌, IsTrue, length, IfOk, if◌then◌else◌};
+ghost use Rattle.std.specs.Prelude.{◌≡◌, ◌+◌, ◌<◌, ◌≤◌, ◌↔◌, ℕ, List, [], ◌∷◌, ◌++◌, IsTrue, true, length, IfOk, if◌then◌else◌};
+ghost use Rattle.std.specs.Option.{ForSome};
+ghost use Rattle.circular_buffer.specs.Buffer.{buffer, keep_last};
+ghost use Rattle.dt_buffer.specs.Ending.{AreAllOf};
 ghost use Rattle.dt_buffer.specs.declared.limits.TheConstants.{DROPS_LIMIT, SIZE_MAX};
 
 use crate::limits::{DROPS_LIMIT, SIZE_MAX};
@@ -11,8 +14,11 @@ use std::alloc::{AllocError, Global};
 pub(crate) struct RingStore {
     pub(crate) bytes: HeapCircularBuffer<u8>,
     pub(crate) lengths: HeapCircularBuffer<u32>,
+    /// The one length of all records that are held, if it is known.
+    pub(crate) each: Option<u32>,
     pub(crate) drops: u64,
     ghost small: { bytes.capacity ≤ SIZE_MAX },
+    ghost alike: { ForSome each (AreAllOf lengths.items) },
 }
 
 impl RingStore {
@@ -28,6 +34,7 @@ impl RingStore {
         Ok(RingStore {
             bytes: HeapCircularBuffer::with_capacity(alloc, size)?,
             lengths: HeapCircularBuffer::with_capacity(alloc, size)?,
+            each: None,
             drops: 0,
         })
     }
@@ -45,14 +52,52 @@ impl RingStore {
             self.drops += 1;
             return false;
         }
+        // Records of one length take turns: the oldest goes, and the lengths are those that they were, so that none is read or written.
+        if self.is_full_of(bytes.len()) {
+            let left = self.bytes.len().saturating_sub(bytes.len());
+            self.bytes.truncate_front(left);
+            self.bytes.fill_from_slice(bytes);
+            return true;
+        }
         self.make_room(bytes.len());
         // there is room for all of it
         self.bytes.fill_from_slice(bytes);
         // An empty record shows nowhere.
         if !bytes.is_empty() {
-            self.lengths.push_back(bytes.len() as u32);
+            self.note_length(bytes.len() as u32);
         }
         true
+    }
+
+    /// Whether there are records, all of this length, and no room for one more.
+    fn is_full_of(&self, len: usize) -> bool
+        ensures alike { IsTrue result → AreAllOf self.now.lengths.items len }
+        ensures some { IsTrue result → 0 < length self.now.lengths.items }
+        ensures full { IsTrue result → self.now.bytes.capacity < length self.now.bytes.items + len }
+    {
+        self.bytes.capacity() - self.bytes.len() < len && self.is_all_of(len)
+    }
+
+    /// Whether there are records, and it is known that all are of this length.
+    fn is_all_of(&self, len: usize) -> bool
+        ensures alike { IsTrue result → AreAllOf self.now.lengths.items len }
+        ensures some { IsTrue result → 0 < length self.now.lengths.items }
+    {
+        match self.each {
+            Some(each) => each as usize == len && !self.lengths.is_empty(),
+            None => false,
+        }
+    }
+
+    /// Notes the length of the newest record.
+    fn note_length(&mut self, len: u32)
+        ensures lengths { self.new.lengths ≡ buffer (keep_last self.old.lengths.capacity (self.old.lengths.items ++ len ∷ []))
+            self.old.lengths.capacity }
+        ensures bytes { self.new.bytes ≡ self.old.bytes }
+        ensures drops { self.new.drops ≡ self.old.drops }
+    {
+        self.each = each_after(self.each, self.lengths.is_empty(), len);
+        self.lengths.push_back(len);
     }
 
     /// Lets the oldest records go until there is room.
@@ -74,5 +119,17 @@ impl RingStore {
             let left = self.bytes.len().saturating_sub(oldest as usize);
             self.bytes.truncate_front(left);
         }
+    }
+}
+
+/// The one length of all records after one more: its own, where it is the first, or as long as all before it.
+fn each_after(each: Option<u32>, is_first: bool, len: u32) -> Option<u32>
+    ensures { (lengths : List ℕ) → ForSome each (AreAllOf lengths) → (is_first ≡ true → lengths ≡ [])
+        → ForSome result (AreAllOf (lengths ++ len ∷ [])) }
+{
+    match each {
+        Some(before) if before == len => each,
+        _ if is_first => Some(len),
+        _ => None,
     }
 }

@@ -39,6 +39,7 @@ use Rattle.dt_life.specs.Refusal.{refused_as}
 use Rattle.dt_life.specs.Reply.{Accepted, IsVerdictOnCommand, refusal_of}
 use Rattle.dt_life.specs.Takings.{began}
 use Rattle.dt_consumer.specs.declared.consumer.Consumer.{Consumer}
+use Rattle.dt_consumer.specs.declared.room.Room.{Room}
 use Rattle.dt_consumer.specs.declared.draft.Change.TheVariants.{Counted, Set, Enable, Go, Stop, Snap, Close}
 use Rattle.dt_consumer.specs.declared.draft.Draft.{Draft}
 use Rattle.dt_life.specs.declared.options.Options.{Options}
@@ -119,7 +120,7 @@ module _ (account : Account) (registry : Registry) (life : List Item) where
   }
 
   -- an accepted program
-  pub program_draft : (count first : ℕ) (clauses : Vec Clause) (ecbs : Vec Ecb) (shapes : Shapes)
+  pub program_draft : (count first : ℕ) (clauses : Vec Clause) (ecbs : Vec Ecb) (shapes : Shapes) (room : Room)
       → is_over life ≡ false → phase account registry life ≡ Inactive
       → first ≡ next_epid account registry (set_up account registry life)
       → is_enabled account registry (shapes_in (set_up account registry life)) first (map form_of_clause clauses.items)
@@ -129,8 +130,8 @@ module _ (account : Account) (registry : Registry) (life : List Item) where
       → count ≡ length ecbs.items
       → shapes_of shapes ≡ (shapes_in (set_up account registry life)) ++ uses_of (map form_of_clause clauses.items)
       → IsDraftOf account registry life (Ok (enable (program (map form_of_clause clauses.items))))
-      (record { reply = Enabled count first; change = Enable clauses ecbs shapes })
-  program_draft count first clauses ecbs shapes fresh off is holds are counts shaped =
+      (record { reply = Enabled count first; change = Enable clauses ecbs shapes room })
+  program_draft count first clauses ecbs shapes room fresh off is holds are counts shaped =
       let forms = map form_of_clause clauses.items in
       let H : ℕ → Type 0 = λ n. is_enabled account registry (shapes_in now) n (map form_of_clause clauses.items)
       ≡ true in

@@ -19,7 +19,7 @@ use Rattle.dt_life.specs.Life.{with_options, shapes_in, is_inactive}
 use Rattle.dt_life.specs.Reply.{Replies}
 use Rattle.dt_life.specs.Takings.{began}
 use Rattle.dt_ecb.specs.Limits.{ecbs_max}
-use Rattle.dt_consumer.specs.Placing.{IsPlaced}
+use Rattle.dt_consumer.specs.Placing.{HasRoomFor, IsPlaced}
 use Rattle.dt_consumer.specs.declared.consumer.Consumer.{Consumer}
 use Rattle.dt_consumer.specs.declared.draft.Change.{Change}
 use Rattle.dt_consumer.specs.declared.draft.Change.TheVariants.{Counted, Set, Enable, Go, Stop, Snap, Trunc, Close}
@@ -49,7 +49,7 @@ module _ (account : Account) (registry : Registry) (life : List Item) where
   Drafted line (Set options) =
       (is_over life ≡ false) × (phase account registry life ≡ Inactive)
       × (set_up_after line ≡ with_options now (form_of_options options)) × (is_close line ≡ false)
-  Drafted line (Enable clauses new shapes) =
+  Drafted line (Enable clauses new shapes room) =
       let forms = map form_of_clause clauses.items in
       let epid = next_epid account registry now in
       (is_over life ≡ false) × (phase account registry life ≡ Inactive) × (line ≡ Ok (enable (program forms)))
@@ -74,10 +74,11 @@ module _ (account : Account) (registry : Registry) (life : List Item) where
 -- A change can be made of a consumer: clauses and ECBs find their room before tracing began, and tracing that begins knows
 -- all clauses.
 abbrev pub ChangeFits : Consumer → Change → Type 0
-ChangeFits consumer (Enable clauses ecbs shapes) =
+ChangeFits consumer (Enable clauses ecbs shapes room) =
     (consumer.tracing ≡ None) × (vec_len clauses ≤ vec_len ecbs)
     × (vec_len consumer.programs.ecbs + vec_len ecbs ≤ ecbs_max)
     × All (IsPlaced (vec_len consumer.programs.clauses + vec_len clauses)) ecbs.items
+    × HasRoomFor room (vec_len consumer.programs.clauses + vec_len clauses) (vec_len consumer.programs.ecbs + vec_len ecbs)
 ChangeFits consumer (Go tracing) = vec_len tracing.value.uses ≡ vec_len consumer.programs.clauses
 ChangeFits consumer _ = Unit {0}
 

@@ -4,6 +4,7 @@ ghost use Rattle.std.specs.Option.{ForSome};
 
 use crate::draft::{Change, Draft};
 use crate::programs::Programs;
+use crate::room::Room;
 use crate::scratch::Scratch;
 use crate::tracing::Tracing;
 use dt_aggstore::Aggregation;
@@ -44,7 +45,7 @@ impl Consumer {
     ghost use Rattle.dt_life.specs.declared.refusal.Refusal.{Refusal};
     ghost use Rattle.dt_consumer.specs.StandsFor.{StandsFor};
 
-    /// A consumer that has asked nothing, with the room for all that it may enable. The machine is there for the contract: it
+    /// A consumer that has asked nothing. The machine is there for the contract: it
     /// says on which machine the consumer stands for its life. Nothing is read of it.
     pub fn new(alloc: Global, account: Account, _machine: &Machine) -> Result<Self, AllocError>
         ensures { IfOk result (λ consumer. StandsFor account _machine.now.registry consumer []) }
@@ -52,7 +53,7 @@ impl Consumer {
         Ok(Consumer {
             account,
             options: Options::new(),
-            programs: Programs::new(alloc)?,
+            programs: Programs::new(alloc),
             tracing: None,
             closed: false,
             lines: 0,
@@ -187,7 +188,8 @@ impl Consumer {
                 clauses,
                 ecbs,
                 shapes,
-            } => self.enable(clauses, ecbs, shapes),
+                room,
+            } => self.enable(clauses, ecbs, shapes, room),
             Change::Go { tracing } => self.begin(Box::into_inner(tracing)),
             Change::Stop => self.stop(machine),
             Change::Snap { cpu } => self.snap(cpu),
@@ -216,16 +218,16 @@ impl Consumer {
     }
 
     /// Enables further clauses.
-    fn enable(&mut self, clauses: Vec<Clause>, ecbs: Vec<Ecb>, shapes: Shapes)
-        requires { ChangeFits self.old (Change.Enable clauses ecbs shapes) }
+    fn enable(&mut self, clauses: Vec<Clause>, ecbs: Vec<Ecb>, shapes: Shapes, room: Room)
+        requires { ChangeFits self.old (Change.Enable clauses ecbs shapes room) }
         ensures { (account : Account) (registry : Registry) (life : List Item) (line : Result Ask Refusal)
             → StandsFor account registry self.old life
-            → Drafted account registry life line (Change.Enable clauses ecbs shapes)
+            → Drafted account registry life line (Change.Enable clauses ecbs shapes room)
             → StandsFor account registry self.new (after_line life line) }
     {
         ecbs_go_on();
         uses_of_both();
-        self.programs.extend(clauses, ecbs, shapes);
+        self.programs.extend(room, clauses, ecbs, shapes);
         self.lines = self.lines.saturating_add(1);
     }
 

@@ -1,6 +1,7 @@
 //! The draft of a line: its reply, and what it will change.
 ghost use Rattle.std.specs.Prelude.{◌≡◌, ◌↔◌, List, Result, IsTrue};
 
+use crate::room::Room;
 use crate::tracing::Tracing;
 use dt_aggstore::Aggregation;
 use dt_ecb::{Ecb, Shapes};
@@ -16,11 +17,12 @@ pub(crate) enum Change {
     Set {
         options: Options,
     },
-    /// These clauses and their ECBs are enabled too, and these are all aggregations.
+    /// These clauses and their ECBs are enabled too, in room for them and all others, and these are all aggregations.
     Enable {
         clauses: Vec<Clause>,
         ecbs: Vec<Ecb>,
         shapes: Shapes,
+        room: Room,
     },
     /// Tracing begins. It has its room for records in itself, so it lies on the heap: a draft is moved for each line.
     Go {

@@ -211,6 +211,9 @@ impl Consumer {
         ensures fits { IfOk result (λ draft. CanApply self.now draft) }
     {
         let shapes = self.programs.shapes.after(alloc, &program)?;
+        let room = self
+            .programs
+            .room_for(alloc, program.clauses.len(), ecbs.len())?;
         let ecbs = placed_after(alloc, self.programs.clauses().len(), &ecbs)?;
         let Program { clauses } = program;
         Ok(Draft {
@@ -222,6 +225,7 @@ impl Consumer {
                 clauses,
                 ecbs,
                 shapes,
+                room,
             },
         })
     }

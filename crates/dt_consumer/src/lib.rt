@@ -17,6 +17,7 @@ mod outline;
 mod processor;
 mod processors;
 mod programs;
+mod room;
 mod scratch;
 mod tracing;
 mod uses;

@@ -23,7 +23,7 @@ none_prop o = λ p q.
     sym (none_same o p) ∙ ap (none_from o) (Bool-set _ _ (ap is_some p) (ap is_some q)) ∙ none_same o q
 
 fits_prop : (consumer : Consumer) (change : Change) → IsProp (ChangeFits consumer change)
-fits_prop consumer (Enable clauses ecbs shapes) = hlevel (none_prop, props)
+fits_prop consumer (Enable clauses ecbs shapes room) = hlevel (none_prop, props)
 fits_prop consumer (Go tracing) = hlevel props
 fits_prop consumer Counted = hlevel props
 fits_prop consumer (Set options) = hlevel props

@@ -1,7 +1,8 @@
 -- The oldest record goes; where none is left, all the room is free.
-use Rattle.std.proofs.Common.{ℕ, sym, ap, ◌∙◌, arith}
+use Rattle.std.proofs.Common.{ℕ, List, sym, ap, subst, ◌∙◌, arith}
 use Rattle.circular_buffer.specs.Buffer.{Buffer}
-use Rattle.dt_buffer.proofs.Overwriting.{room_step, room_whole, none_left}
+use Rattle.dt_buffer.proofs.Overwriting.{room_step, room_whole, none_left, all_rest}
+use Rattle.dt_buffer.specs.Ending.{AreAllOf}
 use Rattle.dt_buffer.specs.Ending.{fitting}
 use Rattle.dt_buffer.proofs.ring.RingStore.make_room.Goals as goal
 
@@ -31,3 +32,9 @@ returns-in_default-clause-room c = λ attempts s.
     room_whole c.args.self.now.bytes.capacity (fitting c.args.self.now.bytes.capacity attempts) c.args.wanted
     c.loop-self.self.bytes.items c.loop-self.self.lengths.items (c.loop-self.invariant.makes attempts s)
     (none_left c.loop-self.self.lengths.items (sym c.pop_front.ensures.value ∙ c.in_default.is)) c.requires
+
+pub invariant_of-self-in-loop-self-clause-alike : goal.invariant_of-self-in-loop-self-clause-alike
+invariant_of-self-in-loop-self-clause-alike c = λ each is.
+    let P : List ℕ → Type 0 = λ xs. AreAllOf xs each in
+    subst P (sym (ap (λ (b : Buffer ℕ). b.items) c.pop_front.ensures.items))
+    (all_rest c.loop-self.self.lengths.items each (c.loop-self.self.alike each is))

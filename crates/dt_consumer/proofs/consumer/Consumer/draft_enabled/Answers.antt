@@ -21,7 +21,8 @@ returns-clause-drafted c = λ account registry life m off first holds are.
     let H : List ShapeForm → Type 0 = λ shapes.
     is_enabled account registry shapes c.args.first
     (map form_of_clause c.args.program.clauses.items) ≡ true in
-    program_draft account registry life _ c.args.first clauses c.in_ok-ecbs.ecbs c.in_ok-shapes.shapes m.in_quota off
+    program_draft account registry life _ c.args.first clauses c.in_ok-ecbs.ecbs c.in_ok-shapes.shapes c.in_ok-room.room m.in_quota
+    off
     first
     (subst H m.stands.keeps.shapes holds)
     (are_placed s.clauses (map form_of_clause clauses.items) _ (length c.clauses.result.now) c.args.ecbs.items
@@ -60,5 +61,10 @@ returns-clause-fits c =
             (subst (λ n. All (IsPlaced n) (map (placed_after before) ecbs))
             (omega (arith, ap length c.clauses.ensures.value))
             (placed_behind before (length c.args.program.clauses.items) ecbs c.requires.placed)),
+        (
+          omega (arith, c.len.ensures, c.in_ok-room.ensures.0),
+          omega (arith, c.len.ensures, c.in_ok-room.ensures.1),
+          omega (arith, many, c.len-2.ensures, c.in_ok-room.ensures.2),
+        ),
       );
     }
