@@ -3,3 +3,4 @@ pub mod Places
 pub mod Offers
 pub mod Publications
 pub mod Tracks
+pub mod Alike

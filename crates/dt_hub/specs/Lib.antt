@@ -6,6 +6,7 @@ pub mod Firings
 pub mod Asking
 pub mod Tellings
 pub mod Processors
+pub mod Serving
 pub mod Forgetting
 pub mod Meetings
 -- The laws of these.

@@ -13,6 +13,7 @@ use crate::hub::Hub;
 use dt_proto::Asked;
 use dt_seat::{HubSite, Session};
 use std::alloc::Global;
+use std::sync::atomic::Ordering;
 use std::sync::{MutexGuard, Wait};
 
 impl<J: HubSite> Hub<J> {
@@ -49,6 +50,8 @@ impl<J: HubSite> Hub<J> {
             session,
             asked,
         );
+        // a `go` may have been published, or what ended tracing withdrawn
+        self.changes.fetch_add(1, Ordering::SeqCst);
         MutexGuard::unlock(locked);
         LineAnswer::of(result)
     }

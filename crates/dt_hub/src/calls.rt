@@ -8,6 +8,7 @@ use crate::hub::Hub;
 use crate::looking::Looked;
 use dt_seat::HubSite;
 use std::sync::Wait;
+use std::sync::atomic::Ordering;
 
 impl<J: HubSite> Hub<J> {
     /// Where a processor's next firing stands, and the seats that it would be offered to if it fired now. It takes nothing from the script: the next firing looks
@@ -37,9 +38,10 @@ impl<J: HubSite> Hub<J> {
         };
         let (cpu, place) = (cpu_seat.cpu, cpu_seat.place);
         cpu_seat.ahead = read_ahead(&self.machine, cpu, place, cpu_seat.ahead);
+        let changes = self.changes.load(Ordering::SeqCst);
         let Ok(found) = cpu_seat
-            .reader
-            .look_into(&self.machine, firing, &mut cpu_seat.mask)
+            .naming
+            .look(&mut cpu_seat.reader, &self.machine, firing, changes)
         else {
             return Fired::Refused;
         };
@@ -48,7 +50,7 @@ impl<J: HubSite> Hub<J> {
             self.offer_to_named(
                 rt,
                 &context,
-                &cpu_seat.mask,
+                cpu_seat.naming.mask(),
                 &mut cpu_seat.scratch,
                 &mut cpu_seat.followers,
                 &mut cpu_seat.held,

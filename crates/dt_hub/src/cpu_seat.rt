@@ -7,6 +7,7 @@ ghost use Rattle.dt_hub.specs.Names.{log_name};
 ghost use Rattle.dt_hub.specs.Processors.{knew_at_seats, places_in};
 ghost use Rattle.dt_seat.specs.Keeps.{followed_at};
 
+use crate::naming::Naming;
 use crate::offered::Offered;
 use dt_chain::{ChainReader, Front, SEATS, Seat, SeatMask};
 use dt_consumer::Scratch;
@@ -28,7 +29,7 @@ pub struct CpuSeat<J: HubSite> {
     pub(crate) followers: Vec<Follower<J>>,
     pub(crate) log: Both,
     /// The seats that the last firing named.
-    pub(crate) mask: SeatMask,
+    pub(crate) naming: Naming<J>,
     /// What it came to there. What lies at a seat that wasn't named means nothing.
     pub(crate) held: Vec<Held>,
     /// Where what clauses leave is made.
@@ -42,7 +43,7 @@ impl<J: HubSite> Model for CpuSeat<J> {
 
     ghost Value = { Processing };
 
-    ghost view = { λ c. processing c.cpu c.place c.reader c.followers.items c.log c.mask c.held.items };
+    ghost view = { λ c. processing c.cpu c.place c.reader c.followers.items c.log c.naming c.held.items };
 
     ghost invariant = { λ c. IsProcessor J.word J.contents c.cpu c.place c.reader.told c.followers.items c.held.items c.log };
 }
@@ -115,7 +116,7 @@ impl<J: HubSite> CpuSeat<J> {
             reader,
             followers,
             log,
-            mask: SeatMask::new(),
+            naming: Naming::new(),
             held,
             scratch: Scratch::new(),
             ahead: 0,
@@ -141,14 +142,14 @@ impl<J: HubSite> CpuSeat<J> {
     pub fn named(&self) -> &SeatMask
         ensures { result.now ≡ self.now.mask }
     {
-        &self.mask
+        self.naming.mask()
     }
 
     /// What the last firing came to at a seat. Before the first, and after a refused one, no seat was named.
     pub fn offered(&self, seat: Seat) -> Offered
         ensures { result ≡ offered_at self.now seat }
     {
-        if self.mask.life_of(seat).is_none() {
+        if self.naming.mask().life_of(seat).is_none() {
             return Offered::NotNamed;
         }
         Offered::of(self.held[seat.number() as usize])

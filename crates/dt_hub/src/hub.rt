@@ -9,6 +9,7 @@ use dt_seat::{HubPublisher, HubSite, LockedSeat};
 use std::alloc::{AllocError, Global};
 use std::marker::Model;
 use std::sync::Mutex;
+use std::sync::atomic::AtomicU64;
 
 /// All that a hub is made of but for its seats, before a program picks its site: its machine, its chains and the word of its facts.
 ///
@@ -62,6 +63,8 @@ pub struct Hub<J: HubSite> {
     pub(crate) facts: Facts,
     pub(crate) chains: Mutex<HubPublisher<J>>,
     pub(crate) seats: LockedSeats<J>,
+    /// How often what is published may have changed: a processor that finds it as it was needn't look. No promise rests on it.
+    pub(crate) changes: CachePadded<AtomicU64>,
 }
 
 impl<J: HubSite> Model for Hub<J> {

@@ -21,6 +21,7 @@ mod letting_go;
 mod looking;
 mod making;
 mod meeting;
+mod naming;
 mod offered;
 mod offering;
 mod opening;

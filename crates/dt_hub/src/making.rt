@@ -16,6 +16,7 @@ use dt_machine::Machine;
 use dt_seat::{Follower, HubPublisher, HubSite, LockedSeat};
 use std::alloc::{AllocError, Global};
 use std::mem;
+use std::sync::atomic::AtomicU64;
 use std::sync::{Mutex, Wait};
 
 /// For each processor no followers yet, with room for one at each seat.
@@ -166,6 +167,7 @@ impl<J: HubSite> Hub<J> {
                     facts,
                     chains: Mutex::new(publisher),
                     seats,
+                    changes: CachePadded::new(AtomicU64::new(0)),
                 };
                 Ok((hub, tokens))
             }
@@ -183,8 +185,10 @@ impl<J: HubSite> Hub<J> {
             facts,
             chains,
             seats,
+            changes,
         } = self;
         chains.into_inner().end(rt);
+        drop(changes);
         drop(seats);
         drop(facts);
         drop(machine);

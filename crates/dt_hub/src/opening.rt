@@ -11,6 +11,7 @@ use crate::hub::Hub;
 use dt_cred::Account;
 use dt_seat::{HubSite, LockedSeat, Session};
 use std::alloc::{AllocError, Global};
+use std::sync::atomic::Ordering;
 use std::sync::{MutexGuard, Wait};
 
 impl<J: HubSite> Hub<J> {
@@ -117,6 +118,7 @@ impl<J: HubSite> Hub<J> {
             let mut locked = self.seats[number as usize].lock(rt);
             if locked.number().number() == number {
                 locked.close(rt, &self.facts, &self.chains, session);
+                self.changes.fetch_add(1, Ordering::SeqCst);
                 MutexGuard::unlock(locked);
                 return;
             }

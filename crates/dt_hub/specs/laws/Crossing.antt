@@ -23,7 +23,7 @@ use Rattle.dt_hub.specs.contracts.hub.Hub.TheInside as inside
 
 inside_sync : (J : RattleType) (h : hub_site.Ghosts J.Denot) (s : site.Ghosts J.Denot) (t : traced.Ghosts J.Denot) → IsSync (inside.the_row J h s t)
 inside_sync J h s t = recorded_sync (inside.the_field J h s t).row _ _ (inside.the_type J h s t).to_one (struct_sync (shape (inside.the_type J h s t))
-    (search (machine.the_sync, sendable), (search (facts.the_sync, sendable), (search (writer.the_send, std.crosses, sendable), (search (locked_send, padded.the_sync, std.crosses, sendable), tt)))))
+    (search (machine.the_sync, sendable), (search (facts.the_sync, sendable), (search (writer.the_send, std.crosses, sendable), (search (locked_send, padded.the_sync, std.crosses, sendable), (search (padded.the_field_sync, std.crosses, sendable), tt))))))
 
 pub hub_sync : (J : RattleType) (h : hub_site.Ghosts J.Denot) (s : site.Ghosts J.Denot) (t : traced.Ghosts J.Denot) → IsSync (hub.the_row J h s t)
 hub_sync J h s t = search (inside_sync, sendable)

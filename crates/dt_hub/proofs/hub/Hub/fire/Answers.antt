@@ -27,7 +27,7 @@ invariant_of-cpu_seat-2 g c =
     let firing = c.in-Some.firing.now in
     let start = inside.followers.items in
     let log = places_in inside.log.fact in
-    let reader = c.look_into.new.self in
+    let reader = c.look.new.reader in
     let more : places_in c.note_down.new.log.fact ≡ log ++ knew_at_seats start ∷ [] = ap (λ (h : HeldFact). places_in h.fact) c.note_down.ensures in
     let counted : length (places_in c.note_down.new.log.fact) ≡ inside.place + 1 = log_longer log (knew_at_seats start) (places_in c.note_down.new.log.fact) inside.place
     more inv.places in
@@ -60,10 +60,10 @@ invariant_of-cpu_seat-2 g c =
         log_is = search rules;
         places = counted;
         tracked =
-            let look : IsMaskAfter contents.registry reader.seen firing c.look_into.new.mask = rw c.self.invariant.0 at c.in-Ok.ensures.mask in
+            let look : IsMaskAfter contents.registry reader.seen firing c.look.new.self = c.in-Ok.ensures.mask in
             let begun : AreAtSeats firing.cpu firing.place start = rw (cpu_is, place_is) inv.seats in
-            let unnamed : (seat : ℕ) → life_at c.look_into.new.mask seat ≡ None = search rules in
-            rw more (λ seat. passed_at contents reader.seen firing c.look_into.new.mask start log script look (inv.places ∙ sym place_is) begun before reader.told
+            let unnamed : (seat : ℕ) → life_at c.look.new.self seat ≡ None = search rules in
+            rw more (λ seat. passed_at contents reader.seen firing c.look.new.self start log script look (inv.places ∙ sym place_is) begun before reader.told
             (subst (λ (l : List Write). IsPrefix reader.seen l) (sym all) (prefix_self reader.seen)) seat (unnamed seat));
       })
     ]
@@ -93,8 +93,8 @@ returns g c =
         log = search rules;
         each = search rules;
         published =
-            let unnamed : (seat : ℕ) → life_at c.look_into.new.mask seat ≡ None = search rules in
-            λ seat. known_unnamed contents c.look_into.new.mask seat inside.followers.items c.look_into.new.self.told (unnamed seat);
+            let unnamed : (seat : ℕ) → life_at c.look.new.self seat ≡ None = search rules in
+            λ seat. known_unnamed contents c.look.new.self seat inside.followers.items c.look.new.reader.told (unnamed seat);
         counts = counts;
       })
     ]
