@@ -50,7 +50,7 @@ impl<J: HubSite> Hub<J> {
             session,
             asked,
         );
-        // a `go` may have been published, or what ended tracing withdrawn
+        // a `go` may have been published, or what ended tracing withdrawn: this is counted after it was done, and before anybody is answered
         self.changes.fetch_add(1, Ordering::SeqCst);
         MutexGuard::unlock(locked);
         LineAnswer::of(result)

@@ -11,8 +11,8 @@ use std::sync::Wait;
 use std::sync::atomic::Ordering;
 
 impl<J: HubSite> Hub<J> {
-    /// Where a processor's next firing stands, and the seats that it would be offered to if it fired now. It takes nothing from the script: the next firing looks
-    /// again. It takes no lock and waits for nobody.
+    /// Where a processor's next firing stands, and the seats that it would be offered to if it fired now. It takes nothing from the script. It takes no lock and waits
+    /// for nobody.
     pub fn look(&self, cpu_seat: &mut CpuSeat<J>) -> Looked
         ensures { ComesOfLook J.contents result cpu_seat.old cpu_seat.new }
     {
@@ -28,7 +28,7 @@ impl<J: HubSite> Hub<J> {
         }
     }
 
-    /// A processor makes the next firing of its script: it looks which seats are named, and offers the firing to these and to no others, one after the other, each under
+    /// A processor makes the next firing of its script: it finds which seats are named, and offers the firing to these and to no others, one after the other, each under
     /// its lock. What it came to at each seat, the token tells. It takes no memory. It waits for those that have the locks of these seats.
     pub fn fire<R: Wait, G: Gate>(&self, rt: &R, cpu_seat: &mut CpuSeat<J>, gate: &G) -> Fired
         ensures { ComesOfCall J.contents result cpu_seat.old cpu_seat.new }
@@ -38,6 +38,7 @@ impl<J: HubSite> Hub<J> {
         };
         let (cpu, place) = (cpu_seat.cpu, cpu_seat.place);
         cpu_seat.ahead = read_ahead(&self.machine, cpu, place, cpu_seat.ahead);
+        // read before the look: what is published after that is counted later, and looked for by a later firing
         let changes = self.changes.load(Ordering::SeqCst);
         let Ok(found) = cpu_seat
             .naming

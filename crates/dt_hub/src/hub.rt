@@ -63,7 +63,8 @@ pub struct Hub<J: HubSite> {
     pub(crate) facts: Facts,
     pub(crate) chains: Mutex<HubPublisher<J>>,
     pub(crate) seats: LockedSeats<J>,
-    /// How often what is published may have changed: a processor that finds it as it was needn't look. No promise rests on it.
+    /// How many lines were asked and sessions closed, so how often what is published may have changed: a processor that finds the count as it was needn't look. No promise
+    /// rests on it.
     pub(crate) changes: CachePadded<AtomicU64>,
 }
 

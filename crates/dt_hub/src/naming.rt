@@ -57,7 +57,7 @@ fn is_all_known<J: HubSite>(front: &Front<J>, reader: &ChainReader<J>) -> bool
     front.begins(&reader.seen())
 }
 
-/// What the last look found, and when: after which writes, for a firing of which kind, and how many changes of what is published had been told of then.
+/// What the last look found, and when: after which writes, for a firing of which kind, and what the hub's count of changes was before it.
 #[derive(Drop)]
 pub(crate) struct LastLook<J: HubSite> {
     pub(crate) front: Front<J>,
@@ -124,7 +124,7 @@ impl<J: HubSite> Naming<J> {
     }
 
     /// The seats that a look names for a firing, as [`ChainReader::look_into`] has it, which is asked only where the last look doesn't serve. `changes` is
-    /// how many changes of what is published the processor was told of before.
+    /// how often what is published may have changed by now.
     ///
     /// `Err`: there was no entry, and nothing is known otherwise. Nobody is named.
     #[inline(always)]

@@ -118,6 +118,7 @@ impl<J: HubSite> Hub<J> {
             let mut locked = self.seats[number as usize].lock(rt);
             if locked.number().number() == number {
                 locked.close(rt, &self.facts, &self.chains, session);
+                // counted after it was withdrawn, so that who finds the count as it was has not missed it
                 self.changes.fetch_add(1, Ordering::SeqCst);
                 MutexGuard::unlock(locked);
                 return;

@@ -1,5 +1,6 @@
 //! The first path, with and without an early look, and what ends a script.
 use crate::calls::{Play, both, only_at, opened, run, says};
+use crate::met;
 use dt_chain::Seat;
 use dt_hub::{CpuSeat, Fired, Hub, HubSite, Looked, NoGate, Offered, Session};
 use dt_hub_calls::fired;
@@ -150,6 +151,37 @@ impl Play for Withdrawn {
 #[test]
 fn a_publication_goes_with_its_tracing(rt: HostRuntime) -> Result<(), Fail> {
     run(&rt, rt.alloc(), MACHINE, &Withdrawn)
+}
+
+/// A processor fires what it fired before, once a session has closed, and once more as another traces.
+struct ClosedBetween;
+
+impl Play for ClosedBetween {
+    fn play<J: HubSite, R: Wait + Abort>(
+        &self,
+        rt: &R,
+        alloc: Global,
+        hub: &Hub<J>,
+        tokens: Vec<CpuSeat<J>>,
+    ) -> Result<(), Fail> {
+        let (mut one, _other) = both(rt, tokens)?;
+        let session = tracing(rt, alloc, hub, "root");
+        keeps_first(rt, hub, &mut one);
+        // nobody asks a line between the close and the firing
+        hub.close(rt, session);
+        assert_eq!(rt; fired(rt, hub, &mut one, &NoGate), Fired::At(1));
+        only_at(rt, &one, 0, Offered::NotNamed);
+        let session = tracing(rt, alloc, hub, "root");
+        assert_eq!(rt; fired(rt, hub, &mut one, &NoGate), Fired::At(2));
+        only_at(rt, &one, 0, Offered::Kept);
+        hub.close(rt, session);
+        Ok(())
+    }
+}
+
+#[test]
+fn a_firing_names_what_is_published_by_then(rt: HostRuntime) -> Result<(), Fail> {
+    run(&rt, rt.alloc(), met::MACHINE, &ClosedBetween)
 }
 
 /// A session on the second seat that traces what the first one does.
