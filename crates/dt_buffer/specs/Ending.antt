@@ -32,7 +32,7 @@ lengths_of [] = []
 lengths_of ([] ∷ records) = lengths_of records
 lengths_of ((byte ∷ bytes) ∷ records) = length (byte ∷ bytes) ∷ lengths_of records
 
--- all of these lengths are the same
+-- each of these lengths is this one
 abbrev pub AreAllOf : List ℕ → ℕ → Type 0
 AreAllOf lengths each = All (λ len. len ≡ each) lengths
 

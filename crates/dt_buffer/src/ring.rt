@@ -1,5 +1,5 @@
 //! The store of a buffer under the ring policy.
-ghost use Rattle.std.specs.Prelude.{◌≡◌, ◌+◌, ◌<◌, ◌≤◌, ◌↔◌, ℕ, List, [], ◌∷◌, ◌++◌, IsTrue, true, length, IfOk, if◌then◌else◌};
+ghost use Rattle.std.specs.Prelude.{◌≡◌, ◌+◌, ◌<◌, ◌≤◌, ◌↔◌, ℕ, List, [], ◌∷◌, ◌++◌, IsTrue, true, length, Some, IfOk, if◌then◌else◌};
 ghost use Rattle.std.specs.Option.{ForSome};
 ghost use Rattle.circular_buffer.specs.Buffer.{buffer, keep_last};
 ghost use Rattle.dt_buffer.specs.Ending.{AreAllOf};
@@ -14,7 +14,7 @@ use std::alloc::{AllocError, Global};
 pub(crate) struct RingStore {
     pub(crate) bytes: HeapCircularBuffer<u8>,
     pub(crate) lengths: HeapCircularBuffer<u32>,
-    /// The one length of all records that are held, if it is known.
+    /// The one length of all records held that have bytes, if it is known.
     pub(crate) each: Option<u32>,
     pub(crate) drops: u64,
     ghost small: { bytes.capacity ≤ SIZE_MAX },
@@ -69,7 +69,7 @@ impl RingStore {
         true
     }
 
-    /// Whether there are records, all of this length, and no room for one more.
+    /// Whether there are records that have bytes, all of this length, and no room for one more.
     fn is_full_of(&self, len: usize) -> bool
         ensures alike { IsTrue result → AreAllOf self.now.lengths.items len }
         ensures some { IsTrue result → 0 < length self.now.lengths.items }
@@ -78,7 +78,7 @@ impl RingStore {
         self.bytes.capacity() - self.bytes.len() < len && self.is_all_of(len)
     }
 
-    /// Whether there are records, and it is known that all are of this length.
+    /// Whether there are records that have bytes, and it is known that all of them are of this length.
     fn is_all_of(&self, len: usize) -> bool
         ensures alike { IsTrue result → AreAllOf self.now.lengths.items len }
         ensures some { IsTrue result → 0 < length self.now.lengths.items }
@@ -96,7 +96,31 @@ impl RingStore {
         ensures bytes { self.new.bytes ≡ self.old.bytes }
         ensures drops { self.new.drops ≡ self.old.drops }
     {
-        self.each = each_after(self.each, self.lengths.is_empty(), len);
+        match self.each {
+            Some(each) if each == len => self.note_alike(len),
+            _ => self.note_other(len),
+        }
+    }
+
+    // It is as long as all before it: what is known of them stays, and isn't written.
+    fn note_alike(&mut self, len: u32)
+        requires { self.old.each ≡ Some len }
+        ensures lengths { self.new.lengths ≡ buffer (keep_last self.old.lengths.capacity (self.old.lengths.items ++ len ∷ []))
+            self.old.lengths.capacity }
+        ensures bytes { self.new.bytes ≡ self.old.bytes }
+        ensures drops { self.new.drops ≡ self.old.drops }
+    {
+        self.lengths.push_back(len);
+    }
+
+    // It may be the first, or of a length of its own.
+    fn note_other(&mut self, len: u32)
+        ensures lengths { self.new.lengths ≡ buffer (keep_last self.old.lengths.capacity (self.old.lengths.items ++ len ∷ []))
+            self.old.lengths.capacity }
+        ensures bytes { self.new.bytes ≡ self.old.bytes }
+        ensures drops { self.new.drops ≡ self.old.drops }
+    {
+        self.each = each_after(self.lengths.is_empty(), len);
         self.lengths.push_back(len);
     }
 
@@ -122,14 +146,10 @@ impl RingStore {
     }
 }
 
-/// The one length of all records after one more: its own, where it is the first, or as long as all before it.
-fn each_after(each: Option<u32>, is_first: bool, len: u32) -> Option<u32>
-    ensures { (lengths : List ℕ) → ForSome each (AreAllOf lengths) → (is_first ≡ true → lengths ≡ [])
+/// The one length of all records that have bytes after one more, if it is known: that one's, where it is the first.
+fn each_after(is_first: bool, len: u32) -> Option<u32>
+    ensures { (lengths : List ℕ) → (is_first ≡ true → lengths ≡ [])
         → ForSome result (AreAllOf (lengths ++ len ∷ [])) }
 {
-    match each {
-        Some(before) if before == len => each,
-        _ if is_first => Some(len),
-        _ => None,
-    }
+    if is_first { Some(len) } else { None }
 }

@@ -12,7 +12,7 @@ IsPlaced clauses ecb = ecb.clause < clauses
 abbrev pub ArePlaced : ℕ → EcbList → Type 0
 ArePlaced clauses list = All (IsPlaced clauses) list.ecbs.items
 
--- there is room for so many clauses and ECBs
+-- there is room for so many clauses, for what is known of as many, and for so many ECBs
 abbrev pub HasRoomFor : Room → (clauses ecbs : ℕ) → Type 0
 HasRoomFor room clauses ecbs =
     (clauses ≤ vec_capacity room.clauses) × (clauses ≤ vec_capacity room.outlines) × (ecbs ≤ vec_capacity room.ecbs)

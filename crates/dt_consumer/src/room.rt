@@ -1,4 +1,4 @@
-//! Room for what an `enable` adds.
+//! Room for all that is enabled after an `enable`.
 ghost use Rattle.std.specs.Prelude.{◌≡◌, []};
 
 use crate::outline::Outline;

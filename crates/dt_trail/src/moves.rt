@@ -146,16 +146,16 @@ fn peek<K, L: Law<K>>(inner: &Inner<K, L>, seat: &mut RowSeat<K>, door: Door, pl
 
 // Reads a cell of each line that the next cells of the door's block lie on.
 #[inline(never)]
-fn read_lines<K, L: Law<K>>(inner: &Inner<K, L>, seat: &mut RowSeat<K>, door: Door, first: u64)
+fn read_lines<K, L: Law<K>>(inner: &Inner<K, L>, seat: &mut RowSeat<K>, door: &Door, first: u64)
     requires seat { OfRow inner.now seat.old }
-    requires door { (seat.old.me.view.door ≡ door) × IsDoor door × (first < door.len) }
+    requires door { (seat.old.me.view.door ≡ door.now) × IsDoor door.now × (first < door.now.len) }
     ensures same { SameSeat seat.old seat.new }
     ensures view { seat.new.me ≡ seat.old.me }
 {
     'lines: for line in 0..AHEAD_LINES {
         let place = first + line * LINE_CELLS;
         if place < door.len {
-            peek(inner, seat, door, place);
+            peek(inner, seat, *door, place);
         }
     }
 }
@@ -163,10 +163,10 @@ fn read_lines<K, L: Law<K>>(inner: &Inner<K, L>, seat: &mut RowSeat<K>, door: Do
 /// Reads the cells that are set next, once for each [`AHEAD_CELLS`] of them. Nothing is made of them: but a cell is set by an exchange, which waits for its line to come,
 /// and those of many rows don't stay near a processor. Here many lines are asked for at once, and come in the time of one.
 #[inline(always)]
-pub fn read_ahead<K, L: Law<K>>(inner: &Inner<K, L>, seat: &mut RowSeat<K>, door: Door, count: u64)
+pub fn read_ahead<K, L: Law<K>>(inner: &Inner<K, L>, seat: &mut RowSeat<K>, door: &Door, count: u64)
     requires seat { OfRow inner.now seat.old }
-    requires door { (seat.old.me.view.door ≡ door) × IsDoor door }
-    requires at { (door.from ≤ count) × (count < door.from + door.len) }
+    requires door { (seat.old.me.view.door ≡ door.now) × IsDoor door.now }
+    requires at { (door.now.from ≤ count) × (count < door.now.from + door.now.len) }
     ensures same { SameSeat seat.old seat.new }
     ensures view { seat.new.me ≡ seat.old.me }
 {

@@ -122,7 +122,7 @@ impl<K, L: Law<K>> TrailOwner<K, L> {
         let count = self.count;
         let inner: &Inner<K, L> = &self.cells;
         arrive(inner, &mut self.seat, &mut self.door, count);
-        read_ahead(inner, &mut self.seat, self.door, count);
+        read_ahead(inner, &mut self.seat, &self.door, count);
         set_next::<Brand, K, L>(
             inner,
             &mut note.seat,
