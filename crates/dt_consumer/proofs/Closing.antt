@@ -29,7 +29,7 @@ module _ (account : Account) (registry : Registry) (consumer : Consumer) (life :
       → IsTracing account registry (set_up account registry life) new)
       → {n : ℕ} → n ≡ suc (lines life)
       → {now : Option Tracing} {was_closed : Bool} → now ≡ Some new
-      → {known : known-type consumer.account consumer.programs now consumer.options was_closed n}
+      → {known : known-type now consumer.account consumer.programs consumer.options was_closed n}
       → StandsFor account registry
       (record consumer { tracing = now; closed = was_closed; lines = n; known = known }) (asked (Ok close) ∷ life)
   closes_traced t new is running over {n} counts {now} {was_closed} by {known} =
@@ -52,7 +52,7 @@ module _ (account : Account) (registry : Registry) (consumer : Consumer) (life :
   -- one that never traced
   pub closes_untraced : consumer.tracing ≡ None → {n : ℕ} → n ≡ suc (lines life)
       → {now : Option Tracing} {is_closed : Bool} → now ≡ None → is_closed ≡ true
-      → {known : known-type consumer.account consumer.programs now consumer.options is_closed n}
+      → {known : known-type now consumer.account consumer.programs consumer.options is_closed n}
       → StandsFor account registry
       (record consumer { tracing = now; closed = is_closed; lines = n; known = known }) (asked (Ok close) ∷ life)
   closes_untraced is {n} counts {now} {is_closed} none set {known} = by_flag consumer.closed refl

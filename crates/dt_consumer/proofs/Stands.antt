@@ -56,7 +56,7 @@ not_active false phase e on = let no : true ≡ false = sym (ap is_active on) �
 module _ (account : Account) (registry : Registry) (consumer : Consumer) where
   -- a count more changes nothing that is kept
   pub keeps_counted : (s : SetUp) (n : ℕ) → Keeps account registry s consumer
-      → {known : known-type consumer.account consumer.programs consumer.tracing consumer.options consumer.closed n}
+      → {known : known-type consumer.tracing consumer.account consumer.programs consumer.options consumer.closed n}
       → Keeps account registry s (record consumer { lines = n; known = known })
   keeps_counted s n k = record {
     same_account = k.same_account;
@@ -71,7 +71,7 @@ module _ (account : Account) (registry : Registry) (consumer : Consumer) where
     -- a line that leaves the set-up
     pub stands_same : (line : Result Ask Refusal) (n : ℕ) → n ≡ suc (lines life)
         → set_up account registry (asked line ∷ life) ≡ set_up account registry life
-        → {known : known-type consumer.account consumer.programs consumer.tracing consumer.options consumer.closed n}
+        → {known : known-type consumer.tracing consumer.account consumer.programs consumer.options consumer.closed n}
         → StandsFor account registry (record consumer { lines = n; known = known }) (asked line ∷ life)
     stands_same line n counts same {known} = record {
       keeps =
@@ -93,7 +93,7 @@ module _ (account : Account) (registry : Registry) (consumer : Consumer) where
   -- other options
   pub keeps_set : (s : SetUp) (n : ℕ) (options : Options) → phase_of s ≡ Inactive
       → Keeps account registry s consumer
-      → {known : known-type consumer.account consumer.programs consumer.tracing options consumer.closed n}
+      → {known : known-type consumer.tracing consumer.account consumer.programs options consumer.closed n}
       → Keeps account registry (with_options s (form_of_options options))
       (record consumer { options = options; lines = n; known = known })
   keeps_set s n options off k = record {
@@ -150,7 +150,7 @@ module _ (account : Account) (registry : Registry) (consumer : Consumer) where
         → programs.clauses.items ≡ consumer.programs.clauses.items ++ clauses
         → programs.ecbs.items ≡ consumer.programs.ecbs.items ++ ecbs
         → shapes_of programs.shapes ≡ (shapes_in s) ++ uses_of forms
-        → {known : known-type consumer.account programs consumer.tracing consumer.options consumer.closed n}
+        → {known : known-type consumer.tracing consumer.account programs consumer.options consumer.closed n}
         → Keeps account registry (with_program s forms) (record consumer { programs = programs; lines = n; known = known })
     keeps_program go_on uses_both n programs grown grown_ecbs shaped = record {
       same_account = k.same_account;
@@ -177,7 +177,7 @@ module _ (account : Account) (registry : Registry) (consumer : Consumer) where
       → next.options ≡ s.options → next.clauses ≡ s.clauses
       → IsTracing account registry next tracing
       → {now : Option Tracing} {closed : Bool} → now ≡ Some tracing
-      → {known : known-type consumer.account consumer.programs now consumer.options closed n}
+      → {known : known-type now consumer.account consumer.programs consumer.options closed n}
       → Keeps account registry next (record consumer { tracing = now; closed = closed; lines = n; known = known })
   keeps_traced s next n tracing k options clauses t {now} {closed} is = record {
     same_account = k.same_account;
@@ -214,7 +214,7 @@ module _ (account : Account) (registry : Registry) (s : SetUp) (consumer : Consu
     pub keeps_quiet : (event : TracingEvent) (is_closed : Bool) (n : ℕ)
         → is_quiet (event ∷ s.since) ≡ true → phase_of (with_event s event) ≡ phase_untraced is_closed
         → {now : Option Tracing} {closed : Bool} → now ≡ None → closed ≡ is_closed
-        → {known : known-type consumer.account consumer.programs now consumer.options closed n}
+        → {known : known-type now consumer.account consumer.programs consumer.options closed n}
         → Keeps account registry (with_event s event)
         (record consumer { tracing = now; closed = closed; lines = n; known = known })
     keeps_quiet event is_closed n quiet standing {now} {closed} none same = record {

@@ -18,9 +18,9 @@ use std::alloc::{AllocError, Global};
 /// One consumer: its options, what it has enabled, and, from its `go` on, what it has of each processor.
 #[derive(Drop)]
 pub struct Consumer {
+    pub(crate) tracing: Option<Tracing>,
     pub(crate) account: Account,
     pub(crate) programs: Programs,
-    pub(crate) tracing: Option<Tracing>,
     pub(crate) options: Options,
     /// Whether the session was closed before tracing began.
     pub(crate) closed: bool,
@@ -118,6 +118,7 @@ impl Consumer {
 
     /// The same for a firing whose probe and process were looked up: so who offers a firing to many consumers looks them up
     /// once. The context is one of the machine's.
+    #[inline(always)]
     pub fn offer_context(
         &mut self,
         machine: &Machine,

@@ -25,10 +25,11 @@ use std::alloc::{AllocError, Global};
 /// many firings it saw, of how many at the most, and why tracing ended.
 #[derive(Drop)]
 pub(crate) struct Tracing {
-    pub(crate) lists: Vec<EcbList>,
-    pub(crate) history: u32,
+    // First, as the one field that each firing writes which is seen: it lies near what else is written then.
     pub(crate) seen: u32,
+    pub(crate) history: u32,
     pub(crate) course: Course,
+    pub(crate) lists: Vec<EcbList>,
     pub(crate) processors: Processors,
     pub(crate) uses: Vec<Uses>,
     ghost own_lists: { END < vec_len lists },

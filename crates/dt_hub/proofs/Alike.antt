@@ -1,23 +1,19 @@
 -- For firings of one kind the same seats are named.
-use Rattle.std.proofs.Common.{◌≡◌, ◌<◌, ◌≤◌, ℕ, Bool, true, false, List, [], ◌++◌, Option, Some, None, IsSome, IfSome, length, subst, sym, ap, ◌∙◌, length-append, arith}
+use Rattle.std.proofs.Common.{◌≡◌, ◌<◌, ◌≤◌, ℕ, Bool, List, [], ◌++◌, Option, Some, None, IsSome, IfSome, length, subst, sym, ap, ◌∙◌, length-append, arith}
 use Rattle.std.specs.Prelude.{IsSomeAnd, IsTrue, MatchBool}
 use Rattle.std.proofs.lemmas.List.{append-nil, nil_from_length}
 use mathlib.Core.List.{IsPrefix}
 use Rattle.dt_facts.specs.laws.Beginnings.{prefix_trans}
-use Rattle.dt_chain.specs.Chains.{IsMaskAfter}
 use Rattle.dt_chain.specs.Look.{IsLook, NamesFiring}
 use Rattle.dt_chain.specs.Writes.{Published, Write, published_on}
-use Rattle.dt_cred.specs.declared.account.Process.{Process}
 use Rattle.dt_cred.specs.declared.class.Class.TheVariants.{Pid}
 use Rattle.dt_cred.specs.declared.firing.Firing.{Firing}
-use Rattle.dt_cred.specs.declared.probe.Probe.{Probe}
 use Rattle.dt_cred.specs.declared.rights.Mode.{Mode}
 use Rattle.dt_hub.specs.Serving.{IsOfKind}
 use Rattle.dt_hub.specs.declared.naming.FiringKind.{FiringKind}
 use Rattle.dt_machine.specs.Interest as interest
 use Rattle.dt_machine.specs.Limits.{first_probe_id}
 use Rattle.dt_machine.specs.Registry.{Belongs, Registry, probe_of, process_of}
-use Rattle.dt_machine.specs.Shown.{IsShown}
 use Rattle.dt_cred.specs.Rights as rights
 
 module _ (registry : Registry) (f g : Firing) (cpu : f.cpu ≡ g.cpu) (probe : f.probe ≡ g.probe) (pid : f.pid ≡ g.pid)

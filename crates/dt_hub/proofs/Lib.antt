@@ -3,4 +3,5 @@ pub mod Places
 pub mod Offers
 pub mod Publications
 pub mod Tracks
+pub mod Rounds
 pub mod Alike

@@ -3,6 +3,7 @@
 -- What is promised.
 pub mod Hubs
 pub mod Firings
+pub mod Offering
 pub mod Asking
 pub mod Tellings
 pub mod Processors

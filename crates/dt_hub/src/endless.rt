@@ -2,8 +2,8 @@
 
 use std::sync::Wait;
 
-/// Never returns. It is called where another seat's number lies under a lock: that never comes, but no clause says so. It stands apart, so that an offer
-/// takes its lock in no loop.
+/// Never returns. It is called where another seat's number lies under a lock: that never comes, but no clause says so. It stands apart, so that the
+/// loop is out of the way of an offer.
 #[cold]
 pub(crate) fn wait_for_ever<R: Wait>(rt: &R)
     ensures { ⊥ }

@@ -3,7 +3,7 @@
 /// When a processor passes the gate of a seat that it offers a firing to.
 #[derive(Clone, Copy, Debug, PartialEq, Eq)]
 pub enum Moment {
-    /// Before it takes the seat's lock.
+    /// Before it asks for the seat's lock. Where another has that, the processor goes on to the other seats, and passes this one's `Locked` as it comes back: not this once more.
     Before,
     /// As it has the lock, and has offered nothing yet.
     Locked,

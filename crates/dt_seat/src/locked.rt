@@ -43,10 +43,11 @@ use std::sync::{Mutex, Wait};
 /// Contracts see it as a `Seated` of `specs/Seats.antt`.
 #[derive(Drop)]
 pub struct LockedSeat<J: HubSite> {
+    // First, and its first fields first: what each offer writes lies beside the lock then, on one line.
+    pub(crate) present: Option<Present<J>>,
     pub(crate) number: Seat,
     pub(crate) life: u64,
     pub(crate) keeps: Vec<Keep<J>>,
-    pub(crate) present: Option<Present<J>>,
     pub(crate) lives: Book,
     pub(crate) free: Option<Idle>,
     pub(crate) writes: Share,
@@ -165,6 +166,7 @@ impl<J: HubSite> LockedSeat<J> {
 
     /// A processor offers a firing of its script to a life of the seat that its look has named. Its note, if it has one, has no firing of it at this place or a later
     /// one. Its reader is told of the publication of the session's `go`, once that was accepted.
+    #[inline(always)]
     pub fn hold<R: Wait>(
         &mut self,
         rt: &R,

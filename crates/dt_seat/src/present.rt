@@ -24,16 +24,17 @@ use dt_machine::{Context, Machine};
 /// The session on a seat: its account, its consumer, and the trail that this stands for.
 #[derive(Drop)]
 pub(crate) struct Present<J: HubSite> {
-    /// The writes that were published as its `go` was accepted, once it was.
-    pub(crate) front: Option<Front<J>>,
     pub(crate) owner: Owner<J>,
     pub(crate) consumer: Consumer,
+    /// The writes that were published as its `go` was accepted, once it was.
+    pub(crate) front: Option<Front<J>>,
     pub(crate) account: Account,
     /// Whether its interest may stand in the chains.
     pub(crate) is_published: bool,
 }
 
 /// A processor offers a firing to the session, having taken its note of the trail.
+#[inline(always)]
 pub(crate) fn hold_at<J: HubSite>(
     machine: &Machine,
     facts: &Facts,

@@ -141,6 +141,7 @@ pub(crate) fn finish<J: Traced>(
 
 /// Offers a firing of a processor's script, on behalf of that processor's note, which then knows the whole trail. Answers whether
 /// the consumer saw it. It takes no memory.
+#[inline(always)]
 pub(crate) fn offer<J: Traced>(
     machine: &Machine,
     owner: &mut Owner<J>,

@@ -4,7 +4,7 @@ ghost use Rattle.std.specs.Prelude.{◌≡◌};
 
 use crate::gates::Meanwhile;
 use crate::{crowd, gates, meeting, rows};
-use dt_hub::{Hub, HubParts, HubSite};
+use dt_hub::{Hub, HubParts, HubSite, Offered};
 use dt_machine::Machine;
 use std::alloc::Global;
 use std::marker::Brand;
@@ -19,8 +19,10 @@ use std::time::Clock;
 pub(crate) enum Scene {
     /// A processor is held at the gate of a seat.
     Held(Meanwhile),
-    /// Two processors are at work at once.
+    /// Two processors are at work at once, of which only one fires for both sessions.
     Meeting,
+    /// The same, where both do.
+    Passing,
     /// Sessions come and go, and processors fire.
     Crowd,
     /// Three sessions ask the lines of rows, two processors fire, and then they meet.
@@ -52,7 +54,8 @@ fn staged<J: HubSite + Send + Sync, R: Threads + Wait + Abort + Clock + Sync>(
     let (hub, tokens) = Hub::<J>::new(rt, alloc, parts)?;
     let result = match scene {
         Scene::Held(meanwhile) => gates::plays(rt, alloc, &hub, tokens, meanwhile),
-        Scene::Meeting => meeting::plays(rt, alloc, &hub, tokens),
+        Scene::Meeting => meeting::plays(rt, alloc, &hub, tokens, Offered::NotNamed),
+        Scene::Passing => meeting::plays(rt, alloc, &hub, tokens, Offered::Kept),
         Scene::Crowd => crowd::plays(rt, alloc, &hub, tokens),
         Scene::Rows => rows::plays(rt, alloc, &hub, tokens),
     };

@@ -11,7 +11,7 @@ use crate::door::Door;
 use crate::inner::{Inner, ROOT, RowSeat};
 use crate::law::Law;
 use crate::note::TrailNote;
-use crate::owner::TrailOwner;
+use crate::owner::{OwnerPlace, TrailOwner};
 use crate::rule::{About, MakesNote, Opens};
 use crate::storage;
 use atomic_blocks::rows::Rows;
@@ -25,7 +25,7 @@ impl Trail {
     ghost use Rattle.dt_trail.specs.Known.{known_row, AreNew};
 
     /// A row of empty cells for an account, with its owner and its notes, which are numbered from 0: the session's, and then those of
-    /// the processors. The empty row has to be lawful for the account. It takes 16 bytes a cell, and some for each note.
+    /// the processors. The empty row has to be lawful for the account. It takes 16 bytes a cell, and some for each note and the owner.
     ///
     /// `Err`: there was no memory.
     pub fn new<K: Drop, L: Law<K>>(
@@ -45,7 +45,13 @@ impl Trail {
             made.push(note)?;
         }
         let right = end_maker(&inner, &mut maker);
-        Ok((TrailOwner::of(inner, right, door, cells), made))
+        let place = OwnerPlace {
+            cells: inner,
+            door,
+            widened: 0,
+            width: cells,
+        };
+        Ok((TrailOwner::of(Box::new(alloc, place)?, right), made))
     }
 }
 

@@ -23,12 +23,30 @@ use std::sync::Arc;
 /// Contracts see it as a `Known` of `specs/Known.antt`: which row it is and whose, the row's items, how many cells the row has,
 /// and how often it was widened.
 pub struct TrailOwner<K, L: Law<K>> {
-    pub(crate) cells: Arc<Inner<K, L>, Global>,
-    pub(crate) seat: RowSeat<K>,
-    pub(crate) door: Door,
+    // Nearly all appends write the count, and nothing else of the owner, so it comes first. The rest lies apart, on lines that are seldom written.
     pub(crate) count: u64,
+    pub(crate) place: Box<OwnerPlace<K, L>>,
+    pub(crate) seat: RowSeat<K>,
+}
+
+/// Where an owner appends: the row's cells, the door to the block of the next one, how often the row was widened and how many cells it has.
+pub(crate) struct OwnerPlace<K, L: Law<K>> {
+    pub(crate) cells: Arc<Inner<K, L>, Global>,
+    pub(crate) door: Door,
     pub(crate) widened: u64,
     pub(crate) width: u64,
+}
+
+impl<K: Drop, L: Law<K>> Drop for OwnerPlace<K, L> {
+    fn drop(self) {
+        let Self {
+            cells,
+            door: _,
+            widened: _,
+            width: _,
+        } = self;
+        drop(cells);
+    }
 }
 
 impl<K, L: Law<K>> Model for TrailOwner<K, L> {
@@ -39,23 +57,20 @@ impl<K, L: Law<K>> Model for TrailOwner<K, L> {
     ghost use Rattle.std.specs.Arc.{arc_value};
     ghost use Rattle.dt_trail.specs.Insides.{owner_known, IsOwner};
 
-    ghost view = { λ o. owner_known (arc_value o.cells) o.seat o.width o.widened };
+    ghost view = { λ o. owner_known (arc_value o.place.value.cells) o.seat o.place.value.width o.place.value.widened };
 
-    ghost invariant = { λ o. IsOwner (arc_value o.cells) o.seat o.door o.count o.widened o.width };
+    ghost invariant = { λ o. IsOwner (arc_value o.place.value.cells) o.seat o.place.value.door o.count o.place.value.widened o.place.value.width };
 }
 
 impl<K: Drop, L: Law<K>> Drop for TrailOwner<K, L> {
     fn drop(self) {
         let Self {
-            cells,
-            seat,
-            door: _,
             count: _,
-            widened: _,
-            width: _,
+            place,
+            seat,
         } = self;
         drop(seat);
-        drop(cells);
+        drop(place);
     }
 }
 
@@ -63,24 +78,16 @@ impl<K, L: Law<K>> TrailOwner<K, L> {
     ghost use Rattle.dt_trail.specs.Items.{whose};
     ghost use Rattle.dt_trail.specs.Known.{known_row, noted, Meets};
 
-    pub(crate) fn of(
-        cells: Arc<Inner<K, L>, Global>,
-        right: RowSeat<K>,
-        door: Door,
-        width: u64,
-    ) -> TrailOwner<K, L>
-        requires row { OfRow (arc_value cells) right }
-        requires view { right.me ≡ me (owner (Some (arc_value cells).about.account) [] door (first_extent width)) None None }
-        requires door { IsDoor door × (door.from ≡ 0) × (width < block_bound) }
-        ensures { result ≡ known_row (row_of (arc_value cells)) [] width 0 }
+    pub(crate) fn of(place: Box<OwnerPlace<K, L>>, right: RowSeat<K>) -> TrailOwner<K, L>
+        requires row { OfRow (arc_value place.value.cells) right }
+        requires view { right.me ≡ me (owner (Some (arc_value place.value.cells).about.account) [] place.value.door (first_extent place.value.width)) None None }
+        requires door { IsDoor place.value.door × (place.value.door.from ≡ 0) × (place.value.width < block_bound) × (place.value.widened ≡ 0) }
+        ensures { result ≡ known_row (row_of (arc_value place.value.cells)) [] place.value.width 0 }
     {
         TrailOwner {
-            cells,
-            seat: right,
-            door,
             count: 0,
-            widened: 0,
-            width,
+            place,
+            seat: right,
         }
     }
 
@@ -88,21 +95,21 @@ impl<K, L: Law<K>> TrailOwner<K, L> {
     pub fn cells(&self) -> u64
         ensures { result ≡ self.now.cells }
     {
-        self.width
+        self.place.width
     }
 
     /// How many of them are empty.
     pub fn room(&self) -> u64
         ensures { length self.now.knows + result ≡ self.now.cells }
     {
-        self.width - self.count
+        self.place.width - self.count
     }
 
     /// How often the row was widened.
     pub fn widened(&self) -> u64
         ensures { result ≡ self.now.widened }
     {
-        self.widened
+        self.place.widened
     }
 
     /// Sets the first empty cell to the item, on behalf of the note whose the item is. The note then knows the whole row.
@@ -120,20 +127,21 @@ impl<K, L: Law<K>> TrailOwner<K, L> {
         ensures met { Meets self.old.knows note.old }
     {
         let count = self.count;
-        let inner: &Inner<K, L> = &self.cells;
-        arrive(inner, &mut self.seat, &mut self.door, count);
-        read_ahead(inner, &mut self.seat, &self.door, count);
+        let place: &mut OwnerPlace<K, L> = &mut self.place;
+        let inner: &Inner<K, L> = &place.cells;
+        arrive(inner, &mut self.seat, &mut place.door, count);
+        read_ahead(inner, &mut self.seat, &place.door, count);
         set_next::<Brand, K, L>(
             inner,
             &mut note.seat,
             &mut self.seat,
-            self.door,
+            place.door,
             count,
             item,
         );
-        self.count = count + 1;
-        note.door = self.door;
+        note.door = place.door;
         note.count = count + 1;
+        self.count = count + 1;
     }
 
     /// The note then knows the whole row.
@@ -143,9 +151,10 @@ impl<K, L: Law<K>> TrailOwner<K, L> {
         ensures note { note.new ≡ noted note.old.row note.old.number self.old.knows }
         ensures met { Meets self.old.knows note.old }
     {
-        let inner: &Inner<K, L> = &self.cells;
+        let place: &OwnerPlace<K, L> = &self.place;
+        let inner: &Inner<K, L> = &place.cells;
         show_all(inner, &mut note.seat, &mut self.seat);
-        note.door = self.door;
+        note.door = place.door;
         note.count = self.count;
     }
 
@@ -154,11 +163,12 @@ impl<K, L: Law<K>> TrailOwner<K, L> {
         ensures told { (result.row ≡ self.old.row.id) × (result.knows ≡ self.old.knows) }
         ensures same { self.new ≡ self.old }
     {
-        let inner: &Inner<K, L> = &self.cells;
+        let place: &OwnerPlace<K, L> = &self.place;
+        let inner: &Inner<K, L> = &place.cells;
         let seat = tell(inner, &mut self.seat);
         Told {
             seat,
-            door: self.door,
+            door: place.door,
             count: self.count,
         }
     }
@@ -176,9 +186,10 @@ impl<K, L: Law<K>> TrailOwner<K, L> {
         ensures met { OnOk result (Meets self.old.knows note.old) }
         ensures same { OnErr result ((self.new ≡ self.old) × (note.new ≡ note.old)) }
     {
-        let (link, block) = storage::block(&self.cells.alloc, cells)?;
-        let inner: &Inner<K, L> = &self.cells;
-        let at = self.widened + 1;
+        let (link, block) = storage::block(&self.place.cells.alloc, cells)?;
+        let place: &mut OwnerPlace<K, L> = &mut self.place;
+        let inner: &Inner<K, L> = &place.cells;
+        let at = place.widened + 1;
         lay_in(
             inner,
             &mut note.seat,
@@ -188,9 +199,9 @@ impl<K, L: Law<K>> TrailOwner<K, L> {
             link,
             block,
         );
-        self.widened = at;
-        self.width += cells;
-        note.door = self.door;
+        place.widened = at;
+        place.width += cells;
+        note.door = place.door;
         note.count = self.count;
         Ok(())
     }

@@ -83,7 +83,7 @@ programs_field = struct_send (shape programs.the_type)
 -- a consumer, as a part of another type
 pub consumer_field : IsSend (consumer.the_field).row
 consumer_field = struct_send (shape consumer.the_type)
-    (account.the_field_send, (programs_field, (search (tracing.the_send, sendable), (options.the_field_send, (search sendable, (search sendable, tt))))))
+    (search (tracing.the_send, sendable), (account.the_field_send, (programs_field, (options.the_field_send, (search sendable, (search sendable, tt))))))
 
 pub consumer_send : IsSend consumer.the_row
 consumer_send = recorded_send (consumer.the_field).row _ _ consumer.the_type.to_one consumer_field

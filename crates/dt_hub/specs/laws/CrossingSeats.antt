@@ -22,11 +22,8 @@ use Rattle.dt_seat.proofs.keep.Keep.TheSendSync as keep
 -- the consumer and its trail, and what its session published
 present_field : (J : RattleType) (s : site.Ghosts J.Denot) (t : traced.Ghosts J.Denot) → IsSend (present.the_field J s t).row
 present_field J s t = struct_send (shape (present.the_type J s t)) (
-  search (front.the_send, std.crosses, sendable),
-  (
-    search (trail_owner.the_send, account.the_send, std.crosses, sendable) depth 60,
-    (consumer_field, (account.the_field_send, (search sendable, tt))),
-  ),
+  search (trail_owner.the_send, account.the_send, std.crosses, sendable) depth 60,
+  (consumer_field, (search (front.the_send, std.crosses, sendable), (account.the_field_send, (search sendable, tt)))),
 )
 
 present_send : (J : RattleType) (s : site.Ghosts J.Denot) (t : traced.Ghosts J.Denot) → IsSend (present.the_row J s t)
@@ -34,13 +31,13 @@ present_send J s t = recorded_send (present.the_field J s t).row _ _ (present.th
 
 inside_send : (J : RattleType) (h : hub_site.Ghosts J.Denot) (s : site.Ghosts J.Denot) (t : traced.Ghosts J.Denot) → IsSend (inside.the_row J h s t)
 inside_send J h s t = recorded_send (inside.the_field J h s t).row _ _ (inside.the_type J h s t).to_one (struct_send (shape (inside.the_type J h s t)) (
-  search (seat.the_send, sendable),
+  search (present_send, sendable),
   (
-    search sendable,
+    search (seat.the_send, sendable),
     (
-      search (keep.the_send, std.crosses, sendable),
+      search sendable,
       (
-        search (present_send, sendable),
+        search (keep.the_send, std.crosses, sendable),
         (search (book.the_send, sendable), (search (idle.the_send, sendable), (search (share.the_send, sendable), tt))),
       ),
     ),

@@ -1,7 +1,6 @@
 -- What a session and a processor that met have in common.
-use Rattle.std.proofs.Common.{◌≡◌, ◌≢◌, ◌≤◌, ◌+◌, ℕ, List, [], ◌∷◌, ◌++◌, Some, length, slice_get, sym, subst}
+use Rattle.std.proofs.Common.{List, sym, subst}
 use Rattle.std.specs.Prelude.{◌↔◌}
-use Rattle.dt_cred.specs.declared.account.Account.{Account}
 use Rattle.dt_hub.proofs.laws.meeting_is_complete.Goals as goal
 use Rattle.dt_hub.specs.Meetings.{HaveMet}
 use Rattle.dt_hub.specs.Processors.{Processing, counts_at}

@@ -15,9 +15,9 @@ returns c = λ account registry life line s drafted.
           (closes_traced account registry old life s w.in-Some.tracing w.close.new.self w.in-Some.is
           (λ t off. w.close.ensures.running account registry (set_up account registry life) t off)
           (λ t on. w.close.ensures.over account registry (set_up account registry life) t on)
-          (omega (arith, quota_left life drafted.0, s.counted, c.saturating_add-self.ensures)) (ap (λ x. x.1.1.1.0) w.self-is))
+          (omega (arith, quota_left life drafted.0, s.counted, c.saturating_add-self.ensures)) (ap (λ x. x.1.0) w.self-is))
       | in-None w ↦
           (closes_untraced account registry old life s w.in-None.is
           (omega (arith, quota_left life drafted.0, s.counted, c.saturating_add-self.ensures))
-          (ap (λ x. x.1.1.1.0) w.self-is ∙ w.in-None.is) (ap (λ x. x.1.1.1.1.1.0) w.self-is))
+          (ap (λ x. x.1.0) w.self-is ∙ w.in-None.is) (ap (λ x. x.1.1.1.1.1.0) w.self-is))
     ])

@@ -20,12 +20,12 @@ returns c = λ account registry life line s drafted.
           (snapped_by account registry life c.args.cpu drafted.3 drafted.1)
           (omega (arith, quota_left life drafted.0, s.counted, c.saturating_add-self.ensures))
           (keeps_traced account registry old own (with_event own (snapped c.args.cpu)) _ w.snap.new.self s.keeps
-          refl refl (w.snap.ensures.snapped account registry own t) (ap (λ x. x.1.1.1.0) w.self-is)))
+          refl refl (w.snap.ensures.snapped account registry own t) (ap (λ x. x.1.0) w.self-is)))
       | in_default w ↦
           let never = untraced account registry own old s.keeps w.in_default.is in
           (stands_changed account registry old life s _ _ (with_event own (snapped c.args.cpu))
           (snapped_by account registry life c.args.cpu drafted.3 drafted.1)
           (omega (arith, quota_left life drafted.0, s.counted, c.saturating_add-self.ensures))
           (keeps_quiet account registry own old s.keeps (snapped c.args.cpu) old.closed _ never.quiet
-          never.standing (ap (λ x. x.1.1.1.0) w.self-is ∙ w.in_default.is) refl))
+          never.standing (ap (λ x. x.1.0) w.self-is ∙ w.in_default.is) refl))
     ])

@@ -21,12 +21,12 @@ returns c = λ account registry life line s drafted.
           (truncated_by account registry life name c.args.aggregation drafted.2 drafted.4)
           (omega (arith, quota_left life drafted.1, s.counted, c.saturating_add-self.ensures))
           (keeps_traced account registry old own (with_event own (truncated name)) _ w.trunc.new.self s.keeps
-          refl refl (w.trunc.ensures.truncated account registry own name t drafted.4) (ap (λ x. x.1.1.1.0) w.self-is)))
+          refl refl (w.trunc.ensures.truncated account registry own name t drafted.4) (ap (λ x. x.1.0) w.self-is)))
       | in_default w ↦
           let never = untraced account registry own old s.keeps w.in_default.is in
           (stands_changed account registry old life s _ _ (with_event own (truncated name))
           (truncated_by account registry life name c.args.aggregation drafted.2 drafted.4)
           (omega (arith, quota_left life drafted.1, s.counted, c.saturating_add-self.ensures))
           (keeps_quiet account registry own old s.keeps (truncated name) old.closed _ never.quiet
-          never.standing (ap (λ x. x.1.1.1.0) w.self-is ∙ w.in_default.is) refl))
+          never.standing (ap (λ x. x.1.0) w.self-is ∙ w.in_default.is) refl))
     ])

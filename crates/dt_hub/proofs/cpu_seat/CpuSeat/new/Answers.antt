@@ -1,5 +1,5 @@
 -- What is to be shown of `new`.
-use Rattle.std.proofs.Common.{rules, ◌≡◌, ℕ, List, [], length, refl, ap, sym, ◌∙◌, subst}
+use Rattle.std.proofs.Common.{rules, ◌≡◌, List, [], length, refl, ap, sym, subst}
 use Rattle.std.specs.List.{slice_get}
 use Rattle.dt_facts.specs.declared.fact.Knew.{Knew}
 use Rattle.dt_facts.specs.Handles.{HeldFact}

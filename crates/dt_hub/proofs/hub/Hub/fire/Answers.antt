@@ -1,6 +1,5 @@
 -- What is to be shown of `fire`.
-use Rattle.std.proofs.Common.{rules, ◌≡◌, ◌+◌, ℕ, List, [], ◌∷◌, ◌++◌, Option, Some, None, length, refl, ap, sym, ◌∙◌, subst}
-use Rattle.std.proofs.lemmas.List.{length-append}
+use Rattle.std.proofs.Common.{rules, ◌≡◌, ◌+◌, ℕ, List, [], ◌∷◌, ◌++◌, Some, None, length, ap, sym, ◌∙◌, subst}
 use Rattle.std.specs.List.{slice_get}
 use mathlib.Core.List.{IsPrefix}
 use Rattle.dt_chain.specs.Chains.{IsMaskAfter}
@@ -8,7 +7,6 @@ use Rattle.dt_chain.specs.Seats.{life_at}
 use Rattle.dt_chain.specs.Writes.{Write}
 use Rattle.dt_cred.specs.declared.firing.Firing.{Firing}
 use Rattle.dt_facts.specs.Handles.{HeldFact}
-use Rattle.dt_facts.specs.declared.fact.Knew.{Knew}
 use Rattle.dt_facts.specs.laws.Beginnings.{prefix_self}
 use Rattle.dt_hub.proofs.Publications.{known_unnamed}
 use Rattle.dt_hub.proofs.Tracks.{all_writes, counts_said, log_longer, passed_at}
@@ -17,7 +15,7 @@ use Rattle.dt_hub.proofs.hub.Hub.fire.Goals.{in-Some-found, in_default-found}
 use Rattle.dt_hub.proofs.Places.{at_seat_next}
 use Rattle.dt_hub.specs.Processors.{AreAtSeats, AreTrackedBy, IsAtSeat, knew_at_seats, places_in}
 use Rattle.dt_life.specs.laws.Options.{if_some_map}
-use Rattle.dt_machine.specs.Registry.{Contents, firing_at}
+use Rattle.dt_machine.specs.Registry.{firing_at}
 
 pub invariant_of-cpu_seat-2 : goal.invariant_of-cpu_seat-2
 invariant_of-cpu_seat-2 g c =

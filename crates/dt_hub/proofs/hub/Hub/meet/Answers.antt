@@ -1,22 +1,19 @@
 -- What is to be shown of `meet`.
-use Rattle.std.proofs.Common.{rules, ◌≡◌, ◌<◌, ◌+◌, ℕ, List, Some, length, refl, sym, ap, ◌∙◌, subst, arith}
+use Rattle.std.proofs.Common.{◌≡◌, ◌<◌, ◌+◌, ℕ, Some, length, refl, sym, ap, ◌∙◌, subst, arith}
 use Rattle.std.proofs.lemmas.List.{length-set}
 use Rattle.std.proofs.lemmas.Option.{slice_get-get_or}
 use Rattle.std.specs.List.{slice_get, slice_set}
-use Rattle.dt_cred.specs.declared.account.Account.{Account}
 use Rattle.dt_hub.proofs.Offers.{get_set_other, get_set_same}
 use Rattle.dt_hub.proofs.Places.{at_seat_met}
 use Rattle.dt_hub.proofs.Tracks.{all_but_one, counts_length}
 use Rattle.dt_hub.proofs.hub.Hub.meet.Goals as goal
-use Rattle.dt_hub.specs.Meetings.{HasLearntAll, HaveMet}
 use Rattle.dt_hub.specs.Processors.{IsAtSeat, counts_at, places_in}
 use Rattle.dt_life.specs.laws.Lists.{replaced}
 use Rattle.dt_life.specs.laws.Options.{some_of}
 use Rattle.dt_meeting.specs.Sharing.{IsShared}
-use Rattle.dt_seat.specs.Keeps.{known_by, known_of, noted_of}
-use Rattle.dt_seat.specs.Sessions.{Sat}
+use Rattle.dt_seat.specs.Keeps.{noted_of}
 use Rattle.dt_seat.specs.Tracked.{AreTracked}
-use Rattle.dt_trail.specs.Items.{TrailItem, own}
+use Rattle.dt_trail.specs.Items.{own}
 
 pub invariant_of-cpu_seat : goal.invariant_of-cpu_seat
 invariant_of-cpu_seat g c =

@@ -1,5 +1,5 @@
 -- What a look found for a firing serves all of its kind.
-use Rattle.std.proofs.Common.{◌≡◌, List, sym, subst, reverse}
+use Rattle.std.proofs.Common.{List, sym, subst, reverse}
 use Rattle.dt_chain.specs.Chains.{IsMaskAfter}
 use Rattle.dt_chain.specs.Seats.{life_at}
 use Rattle.dt_chain.specs.Writes.{Write}
