@@ -85,6 +85,7 @@ def end(client):
 
 def rows(_folder):
     """The worked rows that sessions on the first seats play."""
+    count = 0
     for row in sorted(pathlib.Path("rows").iterdir()):
         if not (row / "steps").is_file() or any((row / it).exists() for it in ("args", "error")) or not (row / "answer").is_file():
             continue
@@ -95,6 +96,9 @@ def rows(_folder):
         text = path.read_text(encoding="utf-8")
         with serving(text) as service:
             yield f"{row} by a service", played(service, steps), ((row / "answer").read_text(encoding="utf-8"), [*makes(text, steps)])
+        count += 1
+    # a row of other words is passed over: so it is looked that not all are
+    yield "so many rows by a service", count >= 100, True
 
 
 def all_seats(_folder):
@@ -363,7 +367,7 @@ def replies(clients, seconds=PATIENCE):
 
 
 def refused(folder):
-    """Services that don't start."""
+    """Services that don't start, and one that ends at once."""
     path = folder / "machine.json"
     sockets = folder / "sockets"
     sockets.mkdir()
@@ -377,6 +381,7 @@ def refused(folder):
     path.write_text(machine([[]], cpus=0), encoding="utf-8")
     yield "a machine that is refused", starts(), (b"", b"machine refused 3 at 0 0\n", 1)
     path.write_text(machine([[]], names=("root", "ann", "bob")), encoding="utf-8")
+    yield "a service whose input is at its end", (starts(), os.listdir(sockets)), ((b"ready\n", b"", 0), [])
     (sockets / "ann.sock").write_text("mine", encoding="utf-8")
     yield "a path that is there", (starts(), sorted(os.listdir(sockets)), (sockets / "ann.sock").read_text(encoding="utf-8")), ((b"", b"fault\n", 1), ["ann.sock"], "mine")
     sockets = folder / "missing"

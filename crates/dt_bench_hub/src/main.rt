@@ -1,11 +1,12 @@
 //! Plays step lines on a hub, which `examples/test` compares, and has sessions and processors at work on one, which `bench/hub` measures.
 //!
 //! `play MACHINE STEPS` plays the lines one after the other, in one thread, and writes the replies as `dtraced replay` does. Lines are `open SEAT ACCOUNT`,
-//! `call SEAT LINE`, `fire CPU`, `tell SEAT CPU`, `meet SEAT CPU` and `close SEAT`; the seats are the first three. To a `meet` it writes which processor was met,
+//! `call SEAT LINE`, `fire CPU`, `look CPU`, `offer CPU SEAT`, `tell SEAT CPU`, `meet SEAT CPU` and `close SEAT`; the seats are the first three. Lines of sessions between a `look` and the first `offer` are played
+//! once the processor has looked, before it takes a lock; with that offer the firing goes to all seats that were named. To a `meet` it writes which processor was met,
 //! whether the seat's trail is complete for it, which is where the session still traces by its `status`, and how many items the trail had. `measure MACHINE INTERESTED OTHERS` opens so many sessions that enable the
 //! probe of the scripts, and so many that enable another, and lets the last two processors fire their whole scripts, one after the other, or, with the word `together`, at
-//! the same time, each on a thread of its own; with one more word, that many firings each, one after the other. It writes how many firings were made, and how long they took. With no word the
-//! program does nothing.
+//! the same time, each on a thread of its own; with one more word, that many firings each, one after the other. It writes how many firings were made, and how long they took. `ask MACHINE SESSIONS` opens
+//! so many sessions one after the other, each of which asks its `status` a thousand times, and writes how many replies came, and how long the lines took. With no word the program does nothing.
 #![tactic(auto)]
 
 ghost use Rattle.std.specs.Prelude.{◌≡◌};
@@ -15,7 +16,7 @@ mod player;
 
 use dt_hub::{CpuSeat, Hub, HubParts, HubSite};
 use dt_machine::Machine;
-use measuring::{Measured, Scene, opens};
+use measuring::{Measured, Replied, Scene, ask_in_turn, opens};
 use player::Player;
 use std::alloc::Global;
 use std::marker::Brand;
@@ -31,6 +32,8 @@ enum Work {
     Play { steps: Vec<u8> },
     /// Sessions and processors are at work.
     Measure(Scene),
+    /// So many sessions ask.
+    Ask { sessions: u64 },
 }
 
 fn main(rt: HostRuntime) -> io::Result<()> {
@@ -75,6 +78,10 @@ fn asked(rt: &HostRuntime) -> Option<(Vec<u8>, Work)> {
             };
             Some((machine, Work::Measure(scene)))
         }
+        "ask" => {
+            let sessions = third.parse().ok()?;
+            Some((machine, Work::Ask { sessions }))
+        }
         _ => None,
     }
 }
@@ -101,6 +108,10 @@ fn staged<J: HubSite + Send + Sync, R: Threads + Wait + Clock + Sync>(
             let measured = opens(rt, alloc, &hub, &mut tokens, scene, left);
             told(alloc, &measured)
         }
+        Work::Ask { sessions } => match ask_in_turn(rt, alloc, &hub, *sessions) {
+            Some(replied) => told_of_lines(alloc, replied),
+            None => None,
+        },
     };
     hub.end(rt);
     text
@@ -116,6 +127,13 @@ fn told(alloc: Global, measured: &Measured) -> Option<Vec<u8>> {
     let line = format!(in alloc;
         "{firings} firings, {spent} ns of their threads, {elapsed} ns in all\n"
     );
+    Some(line.ok()?.into_bytes())
+}
+
+/// The line that tells what was measured of lines.
+fn told_of_lines(alloc: Global, replied: Replied) -> Option<Vec<u8>> {
+    let Replied { lines, spent } = replied;
+    let line = format!(in alloc; "{lines} lines, {spent} ns in all\n");
     Some(line.ok()?.into_bytes())
 }
 

@@ -1,6 +1,6 @@
 //! Sessions that trace, and processors that fire.
 use crossbeam_utils::CachePadded;
-use dt_hub::{CpuSeat, Fired, Hub, HubSite, NoGate, Session};
+use dt_hub::{CpuSeat, Fired, Hub, HubSite, LineAnswer, NoGate, Session};
 use dt_proto::Asked;
 use std::alloc::Global;
 use std::rt::Clock;
@@ -30,6 +30,11 @@ const OPTIONS: [&str; 2] = [
 const INTERESTED: &str = r#"{"cmd":"enable","text":"syscall::read:entry{trace(arg0)}"}"#;
 
 const OTHER: &str = r#"{"cmd":"enable","text":"fbt:genunix:f1:entry{trace(arg0)}"}"#;
+
+const STATUS: &str = r#"{"cmd":"status"}"#;
+
+/// How many lines a session asks of which the time is taken: fewer than its quota.
+const LINES: u64 = 1_000;
 
 /// What was measured of firings.
 #[derive(Clone, Copy, Debug)]
@@ -196,4 +201,49 @@ pub(crate) fn opens<J: HubSite + Send + Sync, R: Threads + Wait + Clock + Sync>(
     let measured = opens(rt, alloc, hub, tokens, scene, left - 1);
     hub.close(rt, session);
     measured
+}
+
+/// What was measured of lines.
+#[derive(Clone, Copy, Debug)]
+pub(crate) struct Replied {
+    /// How many were replied to.
+    pub(crate) lines: u64,
+    /// The nanoseconds that they took.
+    pub(crate) spent: u64,
+}
+
+/// A session asks its `status` again and again. Answers how many replies came.
+fn asks<J: HubSite, R: Wait>(rt: &R, alloc: Global, hub: &Hub<J>, session: &mut Session<J>) -> u64 {
+    let mut replies: u64 = 0;
+    for _ in 0..LINES {
+        let Ok(bytes) = STATUS.as_bytes().to_vec(alloc) else {
+            continue;
+        };
+        if let LineAnswer::Reply(_) = hub.ask(rt, alloc, session, &Asked::Line(bytes)) {
+            replies = replies.saturating_add(1);
+        }
+    }
+    replies
+}
+
+/// So many sessions, one after the other, ask their `status`. `None`: one couldn't be opened, or the clock not be read.
+pub(crate) fn ask_in_turn<J: HubSite, R: Wait + Clock>(
+    rt: &R,
+    alloc: Global,
+    hub: &Hub<J>,
+    sessions: u64,
+) -> Option<Replied> {
+    let mut replied = Replied { lines: 0, spent: 0 };
+    for _ in 0..sessions {
+        let Ok(mut session) = hub.open(rt, alloc, b"root") else {
+            return None;
+        };
+        let begun = Instant::now(rt);
+        let lines = asks(rt, alloc, hub, &mut session);
+        let spent = begun.ok().and_then(|begun| nanoseconds_since(rt, begun));
+        hub.close(rt, session);
+        replied.lines = replied.lines.saturating_add(lines);
+        replied.spent = replied.spent.saturating_add(spent?);
+    }
+    Some(replied)
 }

@@ -1,8 +1,9 @@
 //! Sessions on the first seats, which step lines play.
-use dt_hub::{CpuSeat, Hub, HubSite, LineAnswer, NoGate, Session};
+use dt_hub::{CpuSeat, Gate, Hub, HubSite, LineAnswer, Moment, NoGate, Session};
 use dt_proto::Asked;
 use std::alloc::Global;
-use std::sync::Wait;
+use std::mem;
+use std::sync::{Mutex, MutexGuard, Wait};
 
 /// What a session is asked, once it has met a processor, to know whether it still traces.
 const STATUS: &str = r#"{"cmd":"status"}"#;
@@ -12,6 +13,52 @@ pub(crate) struct Player<J: HubSite> {
     first: Option<Session<J>>,
     second: Option<Session<J>>,
     third: Option<Session<J>>,
+    /// The lines that came since a `look`, and wait for its first `offer`.
+    waiting: Option<Vec<String>>,
+}
+
+/// What a firing has played once it looked, before it takes the lock of the first seat that is named.
+struct Interlude<J: HubSite> {
+    player: Player<J>,
+    lines: Vec<String>,
+    text: Option<Vec<u8>>,
+}
+
+/// A gate at which an interlude is played.
+struct Between<'a, J: HubSite, R: Wait> {
+    rt: &'a R,
+    alloc: Global,
+    hub: &'a Hub<J>,
+    interlude: Mutex<Interlude<J>>,
+}
+
+impl<J: HubSite, R: Wait> Gate for Between<'_, J, R> {
+    fn at(&self, _cpu: u32, _seat: u32, moment: Moment) {
+        if moment != Moment::Before {
+            return;
+        }
+        let mut interlude = self.interlude.lock(self.rt);
+        interlude.play(self.rt, self.alloc, self.hub);
+        MutexGuard::unlock(interlude);
+    }
+}
+
+impl<J: HubSite> Interlude<J> {
+    /// Plays the lines that are left, and keeps what is answered. Where one can't be played nothing is kept.
+    fn play<R: Wait>(&mut self, rt: &R, alloc: Global, hub: &Hub<J>) {
+        let lines = mem::replace(&mut self.lines, Vec::new(alloc));
+        for line in &lines {
+            let answer = self.player.take_of_session(rt, alloc, hub, line.as_str());
+            self.text = joined(self.text.take(), answer);
+        }
+    }
+}
+
+/// A text and what is added to it.
+fn joined(text: Option<Vec<u8>>, answer: Option<Vec<u8>>) -> Option<Vec<u8>> {
+    let mut text = text?;
+    text.extend_from_slice(&answer?).ok()?;
+    Some(text)
 }
 
 /// Closes a session, if it is there.
@@ -135,6 +182,7 @@ impl<J: HubSite> Player<J> {
             first: None,
             second: None,
             third: None,
+            waiting: None,
         }
     }
 
@@ -149,6 +197,18 @@ impl<J: HubSite> Player<J> {
     ) -> Option<Vec<u8>> {
         let (word, rest) = line.split_once(' ')?;
         let (number, more) = rest.split_once(' ').unwrap_or((rest, ""));
+        if word == "look" {
+            self.waiting = Some(Vec::new(alloc));
+            return Some(Vec::new(alloc));
+        }
+        if word == "offer" {
+            let cpu: usize = number.parse().ok()?;
+            return self.fire_after(rt, alloc, hub, tokens.get_mut(cpu)?);
+        }
+        if let Some(waiting) = &mut self.waiting {
+            waiting.push(line.to_string(alloc).ok()?).ok()?;
+            return Some(Vec::new(alloc));
+        }
         if word == "fire" {
             let cpu: usize = number.parse().ok()?;
             let _came = hub.fire(rt, tokens.get_mut(cpu)?, &NoGate);
@@ -163,11 +223,63 @@ impl<J: HubSite> Player<J> {
                 _ => joins(rt, alloc, hub, &mut self.third, token, word, number),
             };
         }
+        self.take_of_session(rt, alloc, hub, line)
+    }
+
+    /// Plays a line of a session.
+    fn take_of_session<R: Wait>(
+        &mut self,
+        rt: &R,
+        alloc: Global,
+        hub: &Hub<J>,
+        line: &str,
+    ) -> Option<Vec<u8>> {
+        let (word, rest) = line.split_once(' ')?;
+        let (number, more) = rest.split_once(' ').unwrap_or((rest, ""));
         match number {
             "0" => act(rt, alloc, hub, &mut self.first, word, number, more),
             "1" => act(rt, alloc, hub, &mut self.second, word, number, more),
             _ => act(rt, alloc, hub, &mut self.third, word, number, more),
         }
+    }
+
+    /// A processor makes its next firing: it looks, then the lines are played that came since its `look`, and then it offers the firing to each seat that was named,
+    /// whichever `offer` names. Where no `look` came before, the firing was made by an earlier `offer`.
+    fn fire_after<R: Wait>(
+        &mut self,
+        rt: &R,
+        alloc: Global,
+        hub: &Hub<J>,
+        token: &mut CpuSeat<J>,
+    ) -> Option<Vec<u8>> {
+        let Some(lines) = self.waiting.take() else {
+            return Some(Vec::new(alloc));
+        };
+        let gate = Between {
+            rt,
+            alloc,
+            hub,
+            interlude: Mutex::new(Interlude {
+                player: mem::replace(self, Player::new()),
+                lines,
+                text: Some(Vec::new(alloc)),
+            }),
+        };
+        let _came = hub.fire(rt, token, &gate);
+        let Between {
+            rt: _rt,
+            alloc: _alloc,
+            hub: _hub,
+            interlude,
+        } = gate;
+        let Interlude {
+            player,
+            lines: left,
+            text,
+        } = interlude.into_inner();
+        mem::replace(self, player).end(rt, hub);
+        // a firing that names nobody comes to no gate
+        if left.is_empty() { text } else { None }
     }
 
     /// Closes the sessions.
@@ -176,6 +288,7 @@ impl<J: HubSite> Player<J> {
             first,
             second,
             third,
+            waiting: _waiting,
         } = self;
         close(rt, hub, first);
         close(rt, hub, second);

@@ -210,7 +210,9 @@ fn fires_row<J: HubSite, R: Wait + Abort + Clock>(
                 (Offered::Kept, Offered::Kept)
             );
         }
-        assert!(rt; at_seat(&token, 1) != Offered::Gone, "a life is gone");
+        for seat in 0..3 {
+            assert!(rt; at_seat(&token, seat) != Offered::Gone, "a life is gone");
+        }
         board.fired.fetch_add(1, Ordering::SeqCst);
     }
     let mut processors = board.processors.lock(rt);

@@ -54,6 +54,8 @@ struct Meeting<C: Clock> {
     locked: AtomicBool,
     passed: AtomicBool,
     met: AtomicBool,
+    /// One of them waited in vain.
+    missed: AtomicBool,
 }
 
 impl<C: Clock> Meeting<C> {
@@ -78,7 +80,8 @@ impl<C: Clock> Gate for Meeting<C> {
                 self.met.store(met, Ordering::SeqCst);
             }
             (1, Moment::Before) => {
-                let _locked = self.waits(&self.locked);
+                let locked = self.waits(&self.locked);
+                self.missed.store(!locked, Ordering::SeqCst);
             }
             (1, Moment::After) => self.passed.store(true, Ordering::SeqCst),
             _ => {}
@@ -173,6 +176,7 @@ fn two_workers_meet_at_the_gate(rt: HostRuntime) -> Result<(), Fail> {
             locked: AtomicBool::new(false),
             passed: AtomicBool::new(false),
             met: AtomicBool::new(false),
+            missed: AtomicBool::new(false),
         },
     )?;
     let theirs = Arc::try_clone(&gate)?;
@@ -184,7 +188,7 @@ fn two_workers_meet_at_the_gate(rt: HostRuntime) -> Result<(), Fail> {
     };
     let (a, b) = thread::join(&rt, || zero.step(&rt, 1), || one.step(&rt, 1));
     assert_eq!(rt; (a, b), (1, 1));
-    assert!(rt; gate.met.load(Ordering::SeqCst));
+    assert!(rt; gate.met.load(Ordering::SeqCst) && !gate.missed.load(Ordering::SeqCst));
     fs::remove_file(&rt, path.as_path())?;
     Ok(())
 }
