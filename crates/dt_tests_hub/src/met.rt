@@ -111,6 +111,281 @@ pub(crate) fn meet<J: HubSite, R: Wait + Abort>(
     Ok(met.expect(rt, "no row in common"))
 }
 
+/// One of a machine's two processors.
+#[derive(Clone, Copy)]
+enum Which {
+    One,
+    Other,
+}
+
+/// The two processors, and what each was answered.
+#[derive(Drop)]
+struct Processors<J: HubSite> {
+    one: Firing<J>,
+    other: Firing<J>,
+}
+
+impl<J: HubSite> Processors<J> {
+    fn at(&mut self, which: Which) -> &mut Firing<J> {
+        match which {
+            Which::One => &mut self.one,
+            Which::Other => &mut self.other,
+        }
+    }
+}
+
+/// What a session and a processor do.
+#[derive(Clone, Copy)]
+enum Act {
+    /// The session asks a line, and is answered so.
+    Asks {
+        line: &'static str,
+        reply: &'static str,
+    },
+    /// The processor fires, and this comes of it.
+    Fires {
+        which: Which,
+        came: Offered,
+    },
+    /// The processor has no more to fire.
+    Ends {
+        which: Which,
+    },
+    /// The processor is told what the session knows, which are so many items.
+    Tells {
+        which: Which,
+        items: u64,
+    },
+    /// They meet: the session then knows so many items.
+    Meets {
+        which: Which,
+        items: u64,
+        sight: Sight,
+    },
+}
+
+const ENABLES: Act = Act::Asks {
+    line: ENABLE,
+    reply: ENABLED,
+};
+
+const BEGINS: Act = Act::Asks {
+    line: GO,
+    reply: DONE,
+};
+
+const STOPS: Act = Act::Asks {
+    line: STOP,
+    reply: DONE,
+};
+
+const SNAPS: Act = Act::Asks {
+    line: SNAP,
+    reply: ONE_RECORD,
+};
+
+const ONE_KEPT: Act = Act::Fires {
+    which: Which::One,
+    came: Offered::Kept,
+};
+
+const ONE_NOT_NAMED: Act = Act::Fires {
+    which: Which::One,
+    came: Offered::NotNamed,
+};
+
+/// The session that is full had seen this much of the trail.
+const ONE_UNSEEN: Act = Act::Fires {
+    which: Which::One,
+    came: Offered::Unseen { known: 5 },
+};
+
+const OTHER_KEPT: Act = Act::Fires {
+    which: Which::Other,
+    came: Offered::Kept,
+};
+
+const OTHER_NOT_NAMED: Act = Act::Fires {
+    which: Which::Other,
+    came: Offered::NotNamed,
+};
+
+/// A session that stops by its fourth line, and by its third.
+const STOPPED_LATER: Sight = Sight {
+    go: 1,
+    stop: Some(3),
+    history: MANY,
+};
+
+const STOPPED: Sight = Sight {
+    go: 1,
+    stop: Some(2),
+    history: MANY,
+};
+
+/// A session whose third line is its `go`, with a history of two firings.
+const FULL: Sight = Sight {
+    go: 2,
+    stop: None,
+    history: 2,
+};
+
+/// A processor fires before a session goes, before it is told of it and after; then they meet, and go on, and meet again.
+const GOES_ON: [Act; 17] = [
+    ONE_NOT_NAMED,
+    ENABLES,
+    BEGINS,
+    ONE_KEPT,
+    SNAPS,
+    Act::Tells {
+        which: Which::One,
+        items: 4,
+    },
+    OTHER_KEPT,
+    ONE_KEPT,
+    ONE_NOT_NAMED,
+    OTHER_KEPT,
+    Act::Meets {
+        which: Which::One,
+        items: 7,
+        sight: GOES,
+    },
+    ONE_KEPT,
+    ONE_NOT_NAMED,
+    STOPS,
+    ONE_NOT_NAMED,
+    Act::Meets {
+        which: Which::Other,
+        items: 9,
+        sight: STOPPED_LATER,
+    },
+    Act::Meets {
+        which: Which::One,
+        items: 9,
+        sight: STOPPED_LATER,
+    },
+];
+
+/// A firing ends the life of a session; then its processors fire as it is named, and once it isn't.
+const FILLS_UP: [Act; 16] = [
+    Act::Asks {
+        line: TWO_FIRINGS,
+        reply: DONE,
+    },
+    ENABLES,
+    BEGINS,
+    ONE_KEPT,
+    OTHER_KEPT,
+    ONE_UNSEEN,
+    ONE_UNSEEN,
+    ONE_NOT_NAMED,
+    Act::Meets {
+        which: Which::One,
+        items: 5,
+        sight: FULL,
+    },
+    ONE_UNSEEN,
+    ONE_NOT_NAMED,
+    Act::Asks {
+        line: STATUS,
+        reply: ENDED,
+    },
+    ONE_NOT_NAMED,
+    OTHER_NOT_NAMED,
+    Act::Meets {
+        which: Which::Other,
+        items: 6,
+        sight: FULL,
+    },
+    Act::Meets {
+        which: Which::One,
+        items: 6,
+        sight: FULL,
+    },
+];
+
+/// A processor fires before a session goes, as it traces, and once it has stopped; then they meet.
+const KEEPS_ONE: [Act; 8] = [
+    ENABLES,
+    OTHER_NOT_NAMED,
+    BEGINS,
+    OTHER_KEPT,
+    STOPS,
+    OTHER_NOT_NAMED,
+    Act::Ends {
+        which: Which::Other,
+    },
+    Act::Meets {
+        which: Which::Other,
+        items: 4,
+        sight: STOPPED,
+    },
+];
+
+/// The same, where the processor was told of the `go`.
+const KEEPS_ONE_TOLD: [Act; 9] = [
+    ENABLES,
+    OTHER_NOT_NAMED,
+    BEGINS,
+    Act::Tells {
+        which: Which::Other,
+        items: 2,
+    },
+    OTHER_KEPT,
+    STOPS,
+    OTHER_NOT_NAMED,
+    Act::Ends {
+        which: Which::Other,
+    },
+    Act::Meets {
+        which: Which::Other,
+        items: 4,
+        sight: STOPPED,
+    },
+];
+
+/// The first life of a seat: one processor takes its note, and the other is told of it.
+const LIVES_FIRST: [Act; 4] = [
+    ONE_KEPT,
+    SNAPS,
+    Act::Tells {
+        which: Which::Other,
+        items: 4,
+    },
+    Act::Meets {
+        which: Which::One,
+        items: 4,
+        sight: GOES,
+    },
+];
+
+/// The next life of the seat: the processors meet its session before they fire for it, and after.
+const LIVES_NEXT: [Act; 7] = [
+    ONE_KEPT,
+    Act::Meets {
+        which: Which::Other,
+        items: 3,
+        sight: GOES,
+    },
+    OTHER_KEPT,
+    Act::Meets {
+        which: Which::One,
+        items: 4,
+        sight: GOES,
+    },
+    ONE_KEPT,
+    Act::Meets {
+        which: Which::One,
+        items: 5,
+        sight: GOES,
+    },
+    Act::Meets {
+        which: Which::Other,
+        items: 5,
+        sight: GOES,
+    },
+];
+
 /// A processor is told what a session knows, which are so many items.
 fn tells<J: HubSite>(hub: &Hub<J>, session: &mut Session<J>, firing: &mut Firing<J>, count: u64) {
     let receipt = hub.receipt(session);
@@ -118,109 +393,54 @@ fn tells<J: HubSite>(hub: &Hub<J>, session: &mut Session<J>, firing: &mut Firing
     firing.heard.learns(count);
 }
 
-/// A processor fires before a session goes, before it is told of it and after; then they meet, and go on, and meet again.
-fn goes_on<J: HubSite, R: Wait + Abort>(
+/// A session and its processors do this, and what comes of it is as it says.
+fn does<J: HubSite, R: Wait + Abort>(
     rt: &R,
     alloc: Global,
     hub: &Hub<J>,
     session: &mut Session<J>,
-    one: &mut Firing<J>,
-    other: &mut Firing<J>,
+    processors: &mut Processors<J>,
+    act: Act,
 ) -> Result<(), AllocError> {
-    comes_to(rt, hub, one, Offered::NotNamed)?;
-    says(rt, alloc, hub, session, ENABLE, ENABLED);
-    says(rt, alloc, hub, session, GO, DONE);
-    comes_to(rt, hub, one, Offered::Kept)?;
-    says(rt, alloc, hub, session, SNAP, ONE_RECORD);
-    tells(hub, session, one, 4);
-    comes_to(rt, hub, other, Offered::Kept)?;
-    comes_to(rt, hub, one, Offered::Kept)?;
-    comes_to(rt, hub, one, Offered::NotNamed)?;
-    comes_to(rt, hub, other, Offered::Kept)?;
-    assert_eq!(rt; meet(rt, alloc, hub, session, one, GOES)?, 7);
-    comes_to(rt, hub, one, Offered::Kept)?;
-    comes_to(rt, hub, one, Offered::NotNamed)?;
-    says(rt, alloc, hub, session, STOP, DONE);
-    comes_to(rt, hub, one, Offered::NotNamed)?;
-    let stopped = Sight {
-        stop: Some(3),
-        ..GOES
-    };
-    assert_eq!(rt; meet(rt, alloc, hub, session, other, stopped)?, 9);
-    assert_eq!(rt; meet(rt, alloc, hub, session, one, stopped)?, 9);
-    Ok(())
-}
-
-/// A firing ends the life of a session; then its processors fire as it is named, and once it isn't.
-fn fills_up<J: HubSite, R: Wait + Abort>(
-    rt: &R,
-    alloc: Global,
-    hub: &Hub<J>,
-    session: &mut Session<J>,
-    one: &mut Firing<J>,
-    other: &mut Firing<J>,
-) -> Result<(), AllocError> {
-    let full = Sight {
-        go: 2,
-        stop: None,
-        history: 2,
-    };
-    says(rt, alloc, hub, session, TWO_FIRINGS, DONE);
-    says(rt, alloc, hub, session, ENABLE, ENABLED);
-    says(rt, alloc, hub, session, GO, DONE);
-    comes_to(rt, hub, one, Offered::Kept)?;
-    comes_to(rt, hub, other, Offered::Kept)?;
-    comes_to(rt, hub, one, Offered::Unseen { known: 5 })?;
-    comes_to(rt, hub, one, Offered::Unseen { known: 5 })?;
-    comes_to(rt, hub, one, Offered::NotNamed)?;
-    assert_eq!(rt; meet(rt, alloc, hub, session, one, full)?, 5);
-    comes_to(rt, hub, one, Offered::Unseen { known: 5 })?;
-    comes_to(rt, hub, one, Offered::NotNamed)?;
-    says(rt, alloc, hub, session, STATUS, ENDED);
-    comes_to(rt, hub, one, Offered::NotNamed)?;
-    comes_to(rt, hub, other, Offered::NotNamed)?;
-    assert_eq!(rt; meet(rt, alloc, hub, session, other, full)?, 6);
-    assert_eq!(rt; meet(rt, alloc, hub, session, one, full)?, 6);
-    Ok(())
-}
-
-/// A processor fires before a session goes, as it traces, and once it has stopped; then they meet.
-fn keeps_one<J: HubSite, R: Wait + Abort>(
-    rt: &R,
-    alloc: Global,
-    hub: &Hub<J>,
-    session: &mut Session<J>,
-    firing: &mut Firing<J>,
-    is_told: bool,
-) -> Result<(), AllocError> {
-    let stopped = Sight {
-        stop: Some(2),
-        ..GOES
-    };
-    says(rt, alloc, hub, session, ENABLE, ENABLED);
-    comes_to(rt, hub, firing, Offered::NotNamed)?;
-    says(rt, alloc, hub, session, GO, DONE);
-    if is_told {
-        tells(hub, session, firing, 2);
+    match act {
+        Act::Asks { line, reply } => says(rt, alloc, hub, session, line, reply),
+        Act::Fires { which, came } => comes_to(rt, hub, processors.at(which), came)?,
+        Act::Ends { which } => {
+            let end = fired(rt, hub, &mut processors.at(which).token, &NoGate);
+            assert_eq!(rt; end, Fired::End);
+        }
+        Act::Tells { which, items } => tells(hub, session, processors.at(which), items),
+        Act::Meets {
+            which,
+            items,
+            sight,
+        } => {
+            let met = meet(rt, alloc, hub, session, processors.at(which), sight)?;
+            assert_eq!(rt; (met, hub.seen(session)), (items, items));
+        }
     }
-    comes_to(rt, hub, firing, Offered::Kept)?;
-    says(rt, alloc, hub, session, STOP, DONE);
-    comes_to(rt, hub, firing, Offered::NotNamed)?;
-    assert_eq!(rt; fired(rt, hub, &mut firing.token, &NoGate), Fired::End);
-    assert_eq!(rt; meet(rt, alloc, hub, session, firing, stopped)?, 4);
-    assert_eq!(rt; hub.seen(session), 4);
+    Ok(())
+}
+
+/// The same, of one act after the other.
+fn plays<J: HubSite, R: Wait + Abort>(
+    rt: &R,
+    alloc: Global,
+    hub: &Hub<J>,
+    session: &mut Session<J>,
+    processors: &mut Processors<J>,
+    acts: &[Act],
+) -> Result<(), AllocError> {
+    for act in acts {
+        does(rt, alloc, hub, session, processors, *act)?;
+    }
     Ok(())
 }
 
 /// How a session and two processors go on until they meet.
 #[derive(Clone, Copy)]
-enum Course {
-    /// Of a script of three firings one is kept, by a processor that was told of the `go`, or that wasn't.
-    KeepsOne { is_told: bool },
-    /// They meet as the session traces, and once it has stopped.
-    GoesOn,
-    /// The session's history is full, and the processors fire on.
-    FillsUp,
+struct Course {
+    acts: &'static [Act],
 }
 
 impl Play for Course {
@@ -233,15 +453,11 @@ impl Play for Course {
     ) -> Result<(), Fail> {
         let (one, other) = both(rt, tokens)?;
         let mut session = opened(rt, alloc, hub, "root");
-        let mut one = Firing::new(alloc, one, &session);
-        let mut other = Firing::new(alloc, other, &session);
-        let met = match *self {
-            Course::KeepsOne { is_told } => {
-                keeps_one(rt, alloc, hub, &mut session, &mut other, is_told)
-            }
-            Course::GoesOn => goes_on(rt, alloc, hub, &mut session, &mut one, &mut other),
-            Course::FillsUp => fills_up(rt, alloc, hub, &mut session, &mut one, &mut other),
+        let mut processors = Processors {
+            one: Firing::new(alloc, one, &session),
+            other: Firing::new(alloc, other, &session),
         };
+        let met = plays(rt, alloc, hub, &mut session, &mut processors, self.acts);
         hub.close(rt, session);
         met?;
         Ok(())
@@ -250,57 +466,33 @@ impl Play for Course {
 
 #[test]
 fn the_firing_between_go_and_stop_is_kept(rt: HostRuntime) -> Result<(), Fail> {
-    for is_told in [false, true] {
-        run(&rt, rt.alloc(), MACHINE, &Course::KeepsOne { is_told })?;
-    }
-    Ok(())
+    run(&rt, rt.alloc(), MACHINE, &Course { acts: &KEEPS_ONE })?;
+    let told = Course {
+        acts: &KEEPS_ONE_TOLD,
+    };
+    run(&rt, rt.alloc(), MACHINE, &told)
 }
 
 #[test]
 fn met_session_and_processor_know_the_same(rt: HostRuntime) -> Result<(), Fail> {
-    run(&rt, rt.alloc(), MACHINE, &Course::GoesOn)
+    run(&rt, rt.alloc(), MACHINE, &Course { acts: &GOES_ON })
 }
 
 #[test]
 fn a_session_is_met_whose_history_is_full(rt: HostRuntime) -> Result<(), Fail> {
-    run(&rt, rt.alloc(), MACHINE, &Course::FillsUp)
+    run(&rt, rt.alloc(), MACHINE, &Course { acts: &FILLS_UP })
 }
 
-/// The first life of the seat: one processor takes its note, and the other is told of it.
-fn lives_first<J: HubSite, R: Wait + Abort>(
+/// The processors' next life of the seat is that of another session.
+fn follow<J: HubSite, R: Abort>(
     rt: &R,
     alloc: Global,
-    hub: &Hub<J>,
-    session: &mut Session<J>,
-    one: &mut Firing<J>,
-    other: &mut Firing<J>,
-) -> Result<(), AllocError> {
-    comes_to(rt, hub, one, Offered::Kept)?;
-    says(rt, alloc, hub, session, SNAP, ONE_RECORD);
-    tells(hub, session, other, 4);
-    assert_eq!(rt; meet(rt, alloc, hub, session, one, GOES)?, 4);
-    Ok(())
-}
-
-/// The next life of the seat: the processors meet its session before they fire for it, and after.
-fn lives_next<J: HubSite, R: Wait + Abort>(
-    rt: &R,
-    alloc: Global,
-    hub: &Hub<J>,
-    session: &mut Session<J>,
-    one: &mut Firing<J>,
-    other: &mut Firing<J>,
+    session: &Session<J>,
+    processors: &mut Processors<J>,
 ) -> Result<(), AllocError> {
     assert_eq!(rt; (session.seat().number(), session.life()), (0, 1));
-    one.heard = one.heard.next(alloc, session)?;
-    other.heard = other.heard.next(alloc, session)?;
-    comes_to(rt, hub, one, Offered::Kept)?;
-    assert_eq!(rt; meet(rt, alloc, hub, session, other, GOES)?, 3);
-    comes_to(rt, hub, other, Offered::Kept)?;
-    assert_eq!(rt; meet(rt, alloc, hub, session, one, GOES)?, 4);
-    comes_to(rt, hub, one, Offered::Kept)?;
-    assert_eq!(rt; meet(rt, alloc, hub, session, one, GOES)?, 5);
-    assert_eq!(rt; meet(rt, alloc, hub, session, other, GOES)?, 5);
+    processors.one.heard = processors.one.heard.next(alloc, session)?;
+    processors.other.heard = processors.other.heard.next(alloc, session)?;
     Ok(())
 }
 
@@ -317,16 +509,20 @@ impl Play for Followed {
     ) -> Result<(), Fail> {
         let (one, other) = both(rt, tokens)?;
         let mut session = tracing(rt, alloc, hub, "root");
-        let mut one = Firing::new(alloc, one, &session);
-        let mut other = Firing::new(alloc, other, &session);
-        let met = lives_first(rt, alloc, hub, &mut session, &mut one, &mut other);
+        let mut processors = Processors {
+            one: Firing::new(alloc, one, &session),
+            other: Firing::new(alloc, other, &session),
+        };
+        let met = plays(rt, alloc, hub, &mut session, &mut processors, &LIVES_FIRST);
         let old = hub.receipt(&mut session);
         hub.close(rt, session);
         met?;
         let mut session = tracing(rt, alloc, hub, "root");
-        hub.tell(&mut one.token, old);
-        let met = lives_next(rt, alloc, hub, &mut session, &mut one, &mut other);
+        hub.tell(&mut processors.one.token, old);
+        let followed = follow(rt, alloc, &session, &mut processors);
+        let met = plays(rt, alloc, hub, &mut session, &mut processors, &LIVES_NEXT);
         hub.close(rt, session);
+        followed?;
         met?;
         Ok(())
     }
