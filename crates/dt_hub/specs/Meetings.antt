@@ -1,6 +1,7 @@
 -- What a session and a processor have once they met.
 use Rattle.std.specs.Prelude.{◌≡◌, ◌≢◌, ◌+◌, ℕ, List, Some, length, slice_get}
 use mathlib.Core.List.{IsPrefix}
+use Rattle.dt_facts.specs.Lives.{IsRowOfLife}
 use Rattle.dt_hub.specs.Processors.{Processing, counts_at}
 use Rattle.dt_legal.specs.Rows.{IsLegalRow}
 use Rattle.dt_machine.specs.Registry.{Contents}
@@ -18,7 +19,7 @@ pub record HasSeenAll (contents : Contents) (old new : Sat) : Type 0 where
   pub legal : IsLegalRow new.account contents new.knows
   pub own_go : IsPublished contents new.seat new.life new.account new.knows new.published
 
--- The processor knows the same of the session's life, by its note, and that the life isn't over, and what the session published. It has lost nothing, and all else is as it was.
+-- The processor knows the same of the session's life, by its note, and that the life opened with the session's trail and isn't over, and what the session published. It has lost nothing, and all else is as it was.
 -- Its own firings in the trail are those that its note knew.
 pub record HasLearntAll (session : Sat) (old new : Processing) : Type 0 where
   pub before : Followed
@@ -26,6 +27,7 @@ pub record HasLearntAll (session : Sat) (old new : Processing) : Type 0 where
   pub old_is : slice_get old.at_seats session.seat ≡ Some before
   pub new_is : slice_get new.at_seats session.seat ≡ Some after
   pub over : over_of after ≡ session.life
+  pub whose : IsRowOfLife session.life session.row after.lives
   pub known : known_of session.life after ≡ session.knows
   pub noted : noted_of session.life after ≡ session.knows
   pub own_firings : own (old.cpu + 1) session.knows ≡ own (old.cpu + 1) (noted_of session.life before)

@@ -1,6 +1,7 @@
 //! How a session and a processor meet.
 ghost use Rattle.std.specs.Prelude.{◌≡◌, ◌<◌, ◌+◌, ℕ, List};
 ghost use mathlib.Core.List.{IsPrefix};
+ghost use Rattle.dt_facts.specs.Lives.{IsRowOfLife};
 ghost use Rattle.dt_hub.specs.Meetings.{HaveMet, HasSeenAll};
 ghost use Rattle.dt_meeting.specs.Sharing.{IsShared};
 ghost use Rattle.dt_seat.specs.Keeps.{Carries, known_by, known_of, noted_of, over_of};
@@ -27,6 +28,7 @@ impl<J: HubSite> Hub<J> {
         ensures session { HasSeenAll J.contents session.old session.new }
         ensures carried { Carries follower.old follower.new session.new.life }
         ensures over { over_of follower.new ≡ session.new.life }
+        ensures whose { IsRowOfLife session.new.life session.new.row follower.new.lives }
         ensures known { known_of session.new.life follower.new ≡ session.new.knows }
         ensures noted { noted_of session.new.life follower.new ≡ session.new.knows }
         ensures whole { known_by follower.new.note ≡ session.new.knows }

@@ -8,7 +8,7 @@ use Rattle.dt_cred.specs.declared.account.Account.{Account}
 use Rattle.dt_cred.specs.declared.firing.Firing.{Firing}
 use Rattle.dt_facts.specs.Handles.{HeldFact}
 use Rattle.dt_facts.specs.Facts.{last_note}
-use Rattle.dt_facts.specs.Lives.{lives_over}
+use Rattle.dt_facts.specs.Lives.{IsRowOfLife, lives_over}
 use Rattle.dt_facts.specs.laws.Lives.{over_closed, over_open}
 use Rattle.dt_seat.specs.Knowledge.{steps_in}
 use Rattle.dt_seat.specs.declared.idle.Idle.{Idle}
@@ -98,8 +98,8 @@ module _ {J : Type 0} (word : TableId) (contents : Contents) (number life : ℕ)
   }
 
 module _ (contents : Contents) (life : ℕ) (firing : Firing) (old lent : Followed) (note : Noted Account)
-    (took : lent.took ≡ Some (last_note life note.row)) (has : lent.note ≡ Some note) (over : over_of lent ≡ life)
-    (known : known_of life lent ≡ known_of life old) (carried : Carries old lent life) where
+    (took : lent.took ≡ Some (last_note life note.row)) (named : IsRowOfLife life note.row lent.lives) (has : lent.note ≡ Some note)
+    (over : over_of lent ≡ life) (known : known_of life lent ≡ known_of life old) (carried : Carries old lent life) where
   elsewhere : (l : ℕ) (knows : List TrailItem) → l ≢ life → known_in l lent.took knows lent.told ≡ told_in l lent.told
   elsewhere l knows other =
       ap (λ (t : Option LastNote). known_in l t knows lent.told) took
@@ -151,7 +151,7 @@ module _ (contents : Contents) (life : ℕ) (firing : Firing) (old lent : Follow
       (with_note lent (noted note.row note.number (trail ++ fired firing.cpu firing.place ∷ [])))
   held_kept trail mine met legal sees =
       let new = noted note.row note.number (trail ++ fired firing.cpu firing.place ∷ []) in
-      (carries_on new, (new, trail, record { took = took; has = refl; over_is = over }, reaches trail mine met legal, sees, refl))
+      (carries_on new, (new, trail, record { took = took; has = refl; over_is = over }, reaches trail mine met legal, sees, refl, named))
 
   pub held_unseen : (trail : List TrailItem) (count : ℕ) → note.number ≡ firing.cpu + 1 → Meets trail note
       → IsLegalRow note.row.account contents trail
@@ -160,7 +160,7 @@ module _ (contents : Contents) (life : ℕ) (firing : Firing) (old lent : Follow
       → ComesOfFiring contents life firing (Unseen count) old (with_note lent (noted note.row note.number trail))
   held_unseen trail count mine met legal unseen all =
       let new = noted note.row note.number trail in
-      (carries_on new, (new, record { took = took; has = refl; over_is = over }, reaches trail mine met legal, unseen, all))
+      (carries_on new, (new, record { took = took; has = refl; over_is = over }, reaches trail mine met legal, unseen, all, named))
 
 pub some_same : {X : Type 0} (x y : X) → Some x ≡ Some y → x ≡ y
 some_same x y e = cc

@@ -41,6 +41,10 @@ pub record Followed : Type 0 where
 abbrev pub over_of : Followed → ℕ
 over_of f = lives_over f.lives
 
+-- The life of this number is of this account: it opened with a trail of it.
+abbrev pub IsOfAccount : (life : ℕ) → Account → List LifeStep → Type 0
+IsOfAccount life account lives = (row : Named Account) × IsRowOfLife life row lives × (account ≡ row.account)
+
 -- what a processor has at a seat where it took nothing
 abbrev pub followed_at : (seat cpu : ℕ) → Followed
 followed_at seat cpu = record { seat = seat; cpu = cpu; took = None; lives = []; note = None; told = None }

@@ -7,7 +7,7 @@ use Rattle.dt_cred.specs.declared.account.Account.{Account}
 use Rattle.dt_cred.specs.declared.firing.Firing.{Firing}
 use Rattle.dt_facts.specs.Facts.{last_note}
 use Rattle.dt_facts.specs.Handles.{HeldFact}
-use Rattle.dt_facts.specs.Lives.{AreClosed, IsOpenAs}
+use Rattle.dt_facts.specs.Lives.{AreClosed, IsOpenAs, IsRowOfLife}
 use Rattle.dt_legal.specs.Rows.{IsLegalRow, line_form_of, life_of_row}
 use Rattle.dt_life.specs.Acceptance.{is_close}
 use Rattle.dt_life.specs.Life.{is_over}
@@ -116,21 +116,23 @@ abbrev pub KnowsPublication : Contents → (life : ℕ) → Followed → (told :
 KnowsPublication contents life f told = (note : Noted Account) → HasNote life f note → IsPublished contents f.seat life note.row.account note.knows told
 
 -- What comes of a firing that is offered to a life. Kept: the life's account sees it after a trail that begins with what was known, and it is
--- then the last item that is known. Unseen: it isn't seen after such a trail, which is then known. Gone: the life is over, as the processor then knows, and nothing else
--- changes.
+-- then the last item that is known. Unseen: it isn't seen after such a trail, which is then known. Of both the trail is the one with which the life opened. Gone: the life is
+-- over, as the processor then knows, and nothing else changes.
 abbrev pub ComesOfFiring : Contents → (life : ℕ) → Firing → Held → Followed → Followed → Type 0
 ComesOfFiring contents life firing WasKept old new =
     Carries old new life
     × ((note : Noted Account) × (trail : List TrailItem) × HasNote life new note
     × Reaches contents note.row.account firing.cpu (known_of life old) trail
     × Sees note.row.account contents.registry (life_of_row note.row.account contents trail) firing
-    × (note.knows ≡ trail ++ fired firing.cpu firing.place ∷ []))
+    × (note.knows ≡ trail ++ fired firing.cpu firing.place ∷ [])
+    × IsRowOfLife life note.row new.lives)
 ComesOfFiring contents life firing (Unseen known) old new =
     Carries old new life
     × ((note : Noted Account) × HasNote life new note
     × Reaches contents note.row.account firing.cpu (known_of life old) note.knows
     × (Sees note.row.account contents.registry (life_of_row note.row.account contents note.knows) firing → ⊥)
-    × (length note.knows ≡ known))
+    × (length note.knows ≡ known)
+    × IsRowOfLife life note.row new.lives)
 ComesOfFiring contents life firing Gone old new = (new ≡ with_lives old new.lives) × IsPrefix old.lives new.lives × (life < over_of new)
 
 -- the item of a firing that is kept

@@ -1,5 +1,6 @@
 //! How a session and a processor meet at a seat.
 ghost use Rattle.std.specs.Prelude.{◌≡◌, ◌<◌, ◌+◌, ℕ, List, IsSomeAnd};
+ghost use Rattle.dt_facts.specs.Lives.{IsRowOfLife};
 ghost use Rattle.dt_legal.specs.Rows.{IsLegalRow};
 ghost use Rattle.dt_meeting.specs.Sharing.{IsShared};
 ghost use Rattle.dt_seat.specs.Keeps.{Carries, known_by, known_of, noted_of, over_of};
@@ -44,6 +45,7 @@ impl<J: HubSite> LockedSeat<J> {
         ensures own_go { IsPublished J.contents session.new.seat session.new.life session.new.account session.new.knows session.new.published }
         ensures carried { Carries follower.old follower.new session.old.life }
         ensures over { over_of follower.new ≡ session.old.life }
+        ensures whose { IsRowOfLife session.old.life session.old.row follower.new.lives }
         ensures known { known_of session.old.life follower.new ≡ session.new.knows }
         ensures noted { noted_of session.old.life follower.new ≡ session.new.knows }
         ensures whole { known_by follower.new.note ≡ session.new.knows }

@@ -3,12 +3,11 @@ ghost use Rattle.std.specs.Prelude.{◌≡◌, ℕ, List, IfSome};
 ghost use mathlib.Core.List.{IsPrefix};
 ghost use Rattle.dt_chain.specs.Writes.{Write};
 ghost use Rattle.dt_cred.specs.declared.account.Account.{Account};
-ghost use Rattle.dt_facts.specs.Lives.{IsRowOfLife};
 ghost use Rattle.dt_legal.specs.Rows.{IsLegalRow};
+ghost use Rattle.dt_seat.specs.Keeps.{IsOfAccount};
 ghost use Rattle.dt_seat.specs.Publications.{IsPublished};
 ghost use Rattle.dt_seat.specs.Receipts.{HasHeard, later_told};
 ghost use Rattle.dt_seat.specs.Tracked.{AreTracked};
-ghost use Rattle.dt_trail.specs.declared.law.Named.{Named};
 
 use crate::follower::Follower;
 use crate::receipt::Receipt;
@@ -45,6 +44,7 @@ impl<J: HubSite> Follower<J> {
         requires facts { facts.now ≡ J.word }
         requires seat { receipt.seat ≡ self.old.seat }
         ensures heard { HasHeard receipt self.old self.new }
+        ensures whose { IsOfAccount receipt.life receipt.account self.new.lives }
         ensures tracked { (writes : List Write) (knew : ℕ → List ℕ) → IsPrefix receipt.published writes
             → AreTracked J.contents writes knew self.old → AreTracked J.contents writes knew self.new }
     {
@@ -57,7 +57,7 @@ impl<J: HubSite> Follower<J> {
         requires facts { facts.now ≡ J.word }
         requires seat { receipt.seat ≡ self.old.seat }
         ensures heard { HasHeard receipt self.old self.new }
-        ensures whose { (row : Named Account) × IsRowOfLife receipt.life row self.new.lives × (receipt.account ≡ row.account) }
+        ensures whose { IsOfAccount receipt.life receipt.account self.new.lives }
         ensures legal { IsLegalRow receipt.account J.contents receipt.knows }
         ensures go { IsPublished J.contents receipt.seat receipt.life receipt.account receipt.knows receipt.published }
     {

@@ -1,10 +1,14 @@
--- What a processor's note knows of a life.
-use Rattle.std.proofs.Common.{◌≡◌, ◌+◌, ◌==◌, ℕ, Bool, true, false, cond, List, [], Option, Some, None, ap, ◌∙◌, refl, eq-eqb}
+-- What a processor's note knows of a life, and whose life it is.
+use Rattle.std.proofs.Common.{◌≡◌, ◌+◌, ◌==◌, ℕ, Bool, true, false, cond, List, [], Option, Some, None, ap, sym, ◌∙◌, refl, eq-eqb}
 use Rattle.std.proofs.lemmas.List.Elements.{filter-append}
+use mathlib.Core.List.{IsPrefix}
 use Rattle.dt_cred.specs.declared.account.Account.{Account}
 use Rattle.dt_facts.specs.Facts.{last_note}
+use Rattle.dt_facts.specs.Lives.{IsRowOfLife}
 use Rattle.dt_facts.specs.declared.fact.LastNote.{LastNote}
-use Rattle.dt_seat.specs.Keeps.{Followed, known_by, known_in, known_of, noted_in, noted_of, told_in}
+use Rattle.dt_facts.specs.declared.fact.LifeStep.{LifeStep}
+use Rattle.dt_facts.specs.laws.Lives.{one_row, row_stays}
+use Rattle.dt_seat.specs.Keeps.{Followed, IsOfAccount, known_by, known_in, known_of, noted_in, noted_of, told_in}
 use Rattle.dt_seat.specs.declared.told_of.ToldOf.{ToldOf}
 use Rattle.dt_trail.specs.Items.{StartsWith, TrailItem, own, whose}
 use Rattle.dt_trail.specs.declared.law.Named.{Named}
@@ -30,3 +34,9 @@ pub noted_within : (cpu life : ℕ) (f : Followed) → StartsWith (own (cpu + 1)
 noted_within cpu life f =
     let whole = noted_begins life f.took (known_by f.note) f.told in
     (own (cpu + 1) whole.0, ap (own (cpu + 1)) whole.1 ∙ filter-append (λ x. whose x == cpu + 1) (noted_of life f) whole.0)
+
+-- A processor that knows whose account a life is of, as it does once it was told or has met, finds firings kept and unseen for that account alone: the note's trail is of it.
+pub one_account : (life : ℕ) (account : Account) (lives more : List LifeStep) (row : Named Account)
+    → IsOfAccount life account lives → IsPrefix lives more → IsRowOfLife life row more → row.account ≡ account
+one_account life account lives more row of begins is =
+    ap (λ (r : Named Account). r.account) (one_row more life row of.0 is (row_stays lives more life of.0 begins of.1)) ∙ sym of.2

@@ -1,7 +1,8 @@
 -- What is to be shown of `hold_at`.
-use Rattle.std.proofs.Common.{◌≡◌, ◌+◌, ℕ, true, false, true≢false, length, refl, ap, sym, ◌∙◌, subst, append-nil}
+use Rattle.std.proofs.Common.{◌≡◌, ◌+◌, ℕ, List, true, false, true≢false, length, refl, ap, sym, ◌∙◌, subst, append-nil}
 use Rattle.dt_cred.specs.declared.account.Account.{Account}
-use Rattle.dt_facts.specs.Lives.{lives_over}
+use Rattle.dt_facts.specs.Lives.{IsRowOfLife, lives_over}
+use Rattle.dt_facts.specs.declared.fact.LifeStep.{LifeStep}
 use Rattle.dt_facts.specs.laws.Lives.{over_open}
 use Rattle.dt_legal.specs.Rows.{IsLegalRow, life_of_row}
 use Rattle.dt_life.specs.Sees.{Sees}
@@ -46,6 +47,9 @@ returns-clause-held g c =
     let mine : c.in-Some.note.number ≡ c.args.context.now.firing.now.cpu + 1 =
     ap (λ (n : Noted Account). n.number) note ∙ ap (λ (k : ℕ). k + 1) c.requires.follower in
     let took = ap (λ (f : Followed). f.took) view ∙ c.lend.ensures.took in
+    let lives = ap (λ (f : Followed). f.lives) view ∙ c.lend.ensures.lives_known in
+    let named = subst (λ (r : Named Account). IsRowOfLife c.args.life r c.follower.inside.lives.lists.lives) (sym row)
+    (subst (λ (l : List LifeStep). IsRowOfLife c.args.life c.args.present.now.owner.row l) (sym lives) c.requires.taken.is_open.1) in
     let over = ap over_of view ∙ ap lives_over c.lend.ensures.lives_known
     ∙ over_open (steps_in c.args.lives.now.fact) c.args.life c.args.present.now.owner.row c.requires.taken.is_open in
     let known = ap (known_of c.args.life) view ∙ c.lend.ensures.known in
@@ -58,7 +62,7 @@ returns-clause-held g c =
           let sees = subst (λ (a : Account). Sees a contents.registry (life_of_row a contents c.args.present.now.owner.knows)
           c.args.context.now.firing.now) (sym account) (c.offer-is_seen.ensures.seen.0 w.if-is_seen.true) in
           rw (w.result-is, w.follower-inside-is, last)
-          (held_kept contents c.args.life c.args.context.now.firing.now c.args.follower.now _ c.in-Some.note (rw (← row) at took) c.in-Some.is
+          (held_kept contents c.args.life c.args.context.now.firing.now c.args.follower.now _ c.in-Some.note (rw (← row) at took) named c.in-Some.is
           over known carried c.args.present.now.owner.knows mine c.offer-is_seen.ensures.met legal sees)
       | else-is_seen w ↦
           let last = rw w.if-is_seen.false at c.offer-is_seen.ensures.note in
@@ -70,7 +74,7 @@ returns-clause-held g c =
           absurd (true≢false (sym bad)) in
           let count = sym (w.count.ensures ∙ ap (λ (n : Noted Account). length n.knows) last) in
           rw (w.result-is, w.follower-inside-is, last)
-          (held_unseen contents c.args.life c.args.context.now.firing.now c.args.follower.now _ c.in-Some.note (rw (← row) at took) c.in-Some.is
+          (held_unseen contents c.args.life c.args.context.now.firing.now c.args.follower.now _ c.in-Some.note (rw (← row) at took) named c.in-Some.is
           over known carried c.args.present.now.owner.knows _ mine c.offer-is_seen.ensures.met legal unseen count)
     ]
 

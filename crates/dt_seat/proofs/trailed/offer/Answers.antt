@@ -4,6 +4,11 @@ use Rattle.dt_legal.specs.laws.Room.{firing_has_room}
 use Rattle.dt_seat.proofs.Trails.{below_met, trailed_firing}
 use Rattle.dt_seat.proofs.trailed.offer.Goals as goal
 
+pub returns-else-is_seen-clause-seen : goal.returns-else-is_seen-clause-seen
+returns-else-is_seen-clause-seen g c =
+    let told = rw c.requires.machine at c.offer_context-is_seen.ensures.sees in
+    told _ _ c.requires.kept.stands c.requires.context
+
 pub fired-item-requires : goal.fired-item-requires
 fired-item-requires g c = let in_range = c.requires.context.belongs.cpu in omega (arith, in_range, c.requires.few)
 
@@ -38,10 +43,5 @@ returns-then-is_seen-clause-kept g c =
 
 pub returns-then-is_seen-clause-seen : goal.returns-then-is_seen-clause-seen
 returns-then-is_seen-clause-seen g c =
-    let told = rw c.requires.machine at c.offer_context-is_seen.ensures.sees in
-    told _ _ c.requires.kept.stands c.requires.context
-
-pub returns-else-is_seen-clause-seen : goal.returns-else-is_seen-clause-seen
-returns-else-is_seen-clause-seen g c =
     let told = rw c.requires.machine at c.offer_context-is_seen.ensures.sees in
     told _ _ c.requires.kept.stands c.requires.context

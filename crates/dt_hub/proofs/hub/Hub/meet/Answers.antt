@@ -70,6 +70,7 @@ returns g c =
         old_is = subst (λ (k : ℕ). slice_get inside.followers.items k ≡ Some c.index_mut.result.now) value is;
         new_is = subst (λ (k : ℕ). slice_get (slice_set inside.followers.items n new) k ≡ Some new) value (get_set_same inside.followers.items n new small);
         over = made.over;
+        whose = made.whose;
         known = made.known;
         noted = made.noted;
         own_firings = subst (λ (p : ℕ). own (p + 1) session.knows ≡ own (p + 1) (noted_of session.life c.index_mut.result.now)) at.cpu_is made.own_firings;

@@ -58,6 +58,7 @@ returns g c =
       new_is = subst (λ (k : ℕ). slice_get (slice_set inside.followers.items n c.tell.new.self) k ≡ Some c.tell.new.self) value
           (get_set_same inside.followers.items n c.tell.new.self small);
       told_seat = c.tell.ensures.heard;
+      whose = c.tell.ensures.whose;
       others = λ seat other. get_set_other inside.followers.items n seat c.tell.new.self (λ e. other (e ∙ value));
       published = c.hears_writes.ensures.published;
       kept = c.hears_writes.ensures.kept;

@@ -75,6 +75,25 @@ returns-clause-over g c =
     let now : c.args.session.now.life ≡ inside.life = sym (ap (λ (x : Sat). x.life) c.session.view_is) ∙ life_is in
     ap lives_over steps ∙ over_open (steps_in inside.lives.fact) inside.life c.in-Some.present.owner.row taken.is_open ∙ sym now
 
+pub returns-clause-whose : goal.returns-clause-whose
+returns-clause-whose g c =
+    let inside = c.self.inside in
+    let s = c.session.inside in
+    let present = c.in-Some.present in
+    let row = present.owner.row in
+    let present_is : inside.present ≡ Some present = c.in-Some.is in
+    let taken = (rw present_is at c.self.invariant.0).0 in
+    let life_is : s.life ≡ inside.life =
+    one_life inside.lives.fact s.share.fact inside.life s.life _ _ c.agree.ensures.agree taken.is_open c.session.invariant.0.is_open in
+    let row_is : s.notebook.note.row ≡ row =
+    one_owner inside.lives.fact s.share.fact inside.life s.life _ _ c.agree.ensures.agree taken.is_open c.session.invariant.0.is_open in
+    let steps : c.meet_at.new.follower.lives ≡ steps_in inside.lives.fact = rw c.agree.ensures.book at c.meet_at.ensures.lives_known in
+    let named = subst (λ (l : List LifeStep). IsRowOfLife inside.life row l) (sym steps) taken.is_open.1 in
+    let now : c.args.session.now.life ≡ inside.life = sym (ap (λ (x : Sat). x.life) c.session.view_is) ∙ life_is in
+    let mine : c.args.session.now.row ≡ row = sym (ap (λ (x : Sat). x.row) c.session.view_is) ∙ row_is in
+    subst (λ (l : ℕ). IsRowOfLife l c.args.session.now.row c.meet_at.new.follower.lives) (sym now)
+    (subst (λ (r : Named Account). IsRowOfLife inside.life r c.meet_at.new.follower.lives) (sym mine) named)
+
 pub returns-clause-shared : goal.returns-clause-shared
 returns-clause-shared g c = λ knew tracked.
     let contents = g.J.Traced.contents in
