@@ -14,16 +14,21 @@ ghost use Rattle.std.specs.Prelude.{◌≡◌};
 mod measuring;
 mod player;
 
-use dt_hub::{CpuSeat, Hub, HubParts, HubSite};
+use dt_hub::{Hub, HubParts, HubSite};
+use dt_hub_calls::HubCalls;
 use dt_machine::Machine;
-use measuring::{Measured, Replied, Scene, ask_in_turn, opens};
+use measuring::{Scene, ask_in_turn, opens};
 use player::Player;
 use std::alloc::Global;
+use std::fmt::Display;
 use std::marker::Brand;
 use std::rt::Clock;
 use std::sync::Wait;
 use std::thread::Threads;
 use std::{env, fs, io};
+
+/// Asks a session how it is: whether it still traces.
+pub(crate) const STATUS: &str = r#"{"cmd":"status"}"#;
 
 /// What is to be done.
 #[derive(Drop)]
@@ -109,7 +114,7 @@ fn staged<J: HubSite + Send + Sync, R: Threads + Wait + Clock + Sync>(
             told(alloc, &measured)
         }
         Work::Ask { sessions } => match ask_in_turn(rt, alloc, &hub, *sessions) {
-            Some(replied) => told_of_lines(alloc, replied),
+            Some(replied) => told(alloc, &replied),
             None => None,
         },
     };
@@ -118,31 +123,17 @@ fn staged<J: HubSite + Send + Sync, R: Threads + Wait + Clock + Sync>(
 }
 
 /// The line that tells what was measured.
-fn told(alloc: Global, measured: &Measured) -> Option<Vec<u8>> {
-    let Measured {
-        firings,
-        spent,
-        elapsed,
-    } = *measured;
-    let line = format!(in alloc;
-        "{firings} firings, {spent} ns of their threads, {elapsed} ns in all\n"
-    );
-    Some(line.ok()?.into_bytes())
-}
-
-/// The line that tells what was measured of lines.
-fn told_of_lines(alloc: Global, replied: Replied) -> Option<Vec<u8>> {
-    let Replied { lines, spent } = replied;
-    let line = format!(in alloc; "{lines} lines, {spent} ns in all\n");
+fn told<M: Display>(alloc: Global, measured: &M) -> Option<Vec<u8>> {
+    let line = format!(in alloc; "{measured}\n");
     Some(line.ok()?.into_bytes())
 }
 
 /// Plays the lines.
-fn played<J: HubSite, R: Wait>(
+fn played<H: HubCalls, R: Wait>(
     rt: &R,
     alloc: Global,
-    hub: &Hub<J>,
-    tokens: &mut Vec<CpuSeat<J>>,
+    hub: &H,
+    tokens: &mut Vec<H::Token>,
     steps: &Vec<u8>,
 ) -> Option<Vec<u8>> {
     let steps = str::from_utf8(steps.as_slice()).ok()?;
@@ -157,12 +148,12 @@ fn played<J: HubSite, R: Wait>(
 }
 
 /// Plays a line, and adds what is answered. False: it can't be played.
-fn takes<J: HubSite, R: Wait>(
+fn takes<H: HubCalls, R: Wait>(
     rt: &R,
     alloc: Global,
-    hub: &Hub<J>,
-    tokens: &mut Vec<CpuSeat<J>>,
-    player: &mut Player<J>,
+    hub: &H,
+    tokens: &mut Vec<H::Token>,
+    player: &mut Player<H>,
     line: &str,
     text: &mut Vec<u8>,
 ) -> bool {

@@ -1,8 +1,10 @@
 //! Sessions that trace, and processors that fire.
+use crate::STATUS;
 use crossbeam_utils::CachePadded;
-use dt_hub::{CpuSeat, Fired, Hub, HubSite, LineAnswer, NoGate, Session};
-use dt_proto::Asked;
+use dt_hub::{CpuSeat, Fired, Hub, HubSite, LineAnswer, NoGate};
+use dt_hub_calls::HubCalls;
 use std::alloc::Global;
+use std::fmt;
 use std::rt::Clock;
 use std::sync::Wait;
 use std::thread::{Threads, join};
@@ -30,8 +32,6 @@ const OPTIONS: [&str; 2] = [
 const INTERESTED: &str = r#"{"cmd":"enable","text":"syscall::read:entry{trace(arg0)}"}"#;
 
 const OTHER: &str = r#"{"cmd":"enable","text":"fbt:genunix:f1:entry{trace(arg0)}"}"#;
-
-const STATUS: &str = r#"{"cmd":"status"}"#;
 
 /// How many lines a session asks of which the time is taken: fewer than its quota.
 const LINES: u64 = 1_000;
@@ -75,8 +75,18 @@ impl Measured {
     }
 }
 
+impl fmt::Display for Measured {
+    fn fmt<W: fmt::Write>(&self, f: &mut fmt::Formatter<W>) -> fmt::Result {
+        let (firings, spent, elapsed) = (self.firings, self.spent, self.elapsed);
+        write!(
+            f,
+            "{firings} firings, {spent} ns of their threads, {elapsed} ns in all"
+        )
+    }
+}
+
 /// A processor fires its script, so many places of it at most.
-fn fires_most<J: HubSite, R: Wait>(rt: &R, hub: &Hub<J>, token: &mut CpuSeat<J>, most: u64) -> u64 {
+fn fires_most<H: HubCalls, R: Wait>(rt: &R, hub: &H, token: &mut H::Token, most: u64) -> u64 {
     for count in 0..most {
         match hub.fire(rt, token, &NoGate) {
             Fired::End => return count,
@@ -87,10 +97,10 @@ fn fires_most<J: HubSite, R: Wait>(rt: &R, hub: &Hub<J>, token: &mut CpuSeat<J>,
 }
 
 /// The same, measured. Where the clock can't be read no firing is told.
-fn fires<J: HubSite, R: Wait + Clock>(
+fn fires<H: HubCalls, R: Wait + Clock>(
     rt: &R,
-    hub: &Hub<J>,
-    token: &mut CpuSeat<J>,
+    hub: &H,
+    token: &mut H::Token,
     most: u64,
 ) -> Measured {
     let begun = Instant::now(rt);
@@ -149,24 +159,22 @@ fn both_fire<J: HubSite + Send + Sync, R: Threads + Wait + Clock + Sync>(
 }
 
 /// Asks a line, whatever is answered.
-fn says<J: HubSite, R: Wait>(
+fn says<H: HubCalls, R: Wait>(
     rt: &R,
     alloc: Global,
-    hub: &Hub<J>,
-    session: &mut Session<J>,
+    hub: &H,
+    session: &mut H::Session,
     line: &str,
 ) {
-    if let Ok(bytes) = line.as_bytes().to_vec(alloc) {
-        let _answer = hub.ask(rt, alloc, session, &Asked::Line(bytes));
-    }
+    let _answer = hub.ask(rt, alloc, session, line);
 }
 
 /// A session traces: the probe that fires, or another.
-fn traces<J: HubSite, R: Wait>(
+fn traces<H: HubCalls, R: Wait>(
     rt: &R,
     alloc: Global,
-    hub: &Hub<J>,
-    session: &mut Session<J>,
+    hub: &H,
+    session: &mut H::Session,
     is_interested: bool,
 ) {
     for line in OPTIONS {
@@ -212,14 +220,18 @@ pub(crate) struct Replied {
     pub(crate) spent: u64,
 }
 
+impl fmt::Display for Replied {
+    fn fmt<W: fmt::Write>(&self, f: &mut fmt::Formatter<W>) -> fmt::Result {
+        let (lines, spent) = (self.lines, self.spent);
+        write!(f, "{lines} lines, {spent} ns in all")
+    }
+}
+
 /// A session asks its `status` again and again. Answers how many replies came.
-fn asks<J: HubSite, R: Wait>(rt: &R, alloc: Global, hub: &Hub<J>, session: &mut Session<J>) -> u64 {
+fn asks<H: HubCalls, R: Wait>(rt: &R, alloc: Global, hub: &H, session: &mut H::Session) -> u64 {
     let mut replies: u64 = 0;
     for _ in 0..LINES {
-        let Ok(bytes) = STATUS.as_bytes().to_vec(alloc) else {
-            continue;
-        };
-        if let LineAnswer::Reply(_) = hub.ask(rt, alloc, session, &Asked::Line(bytes)) {
+        if let LineAnswer::Reply(_) = hub.ask(rt, alloc, session, STATUS) {
             replies = replies.saturating_add(1);
         }
     }
@@ -227,15 +239,15 @@ fn asks<J: HubSite, R: Wait>(rt: &R, alloc: Global, hub: &Hub<J>, session: &mut 
 }
 
 /// So many sessions, one after the other, ask their `status`. `None`: one couldn't be opened, or the clock not be read.
-pub(crate) fn ask_in_turn<J: HubSite, R: Wait + Clock>(
+pub(crate) fn ask_in_turn<H: HubCalls, R: Wait + Clock>(
     rt: &R,
     alloc: Global,
-    hub: &Hub<J>,
+    hub: &H,
     sessions: u64,
 ) -> Option<Replied> {
     let mut replied = Replied { lines: 0, spent: 0 };
     for _ in 0..sessions {
-        let Ok(mut session) = hub.open(rt, alloc, b"root") else {
+        let Ok(mut session) = hub.open(rt, alloc, "root") else {
             return None;
         };
         let begun = Instant::now(rt);

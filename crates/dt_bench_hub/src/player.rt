@@ -1,38 +1,36 @@
 //! Sessions on the first seats, which step lines play.
-use dt_hub::{CpuSeat, Gate, Hub, HubSite, LineAnswer, Moment, NoGate, Session};
-use dt_proto::Asked;
+use crate::STATUS;
+use dt_hub::{Gate, LineAnswer, Moment, NoGate};
+use dt_hub_calls::{HubCalls, TokenCalls};
 use std::alloc::Global;
 use std::mem;
 use std::sync::{Mutex, MutexGuard, Wait};
 
-/// What a session is asked, once it has met a processor, to know whether it still traces.
-const STATUS: &str = r#"{"cmd":"status"}"#;
-
 /// The sessions that are open on the first three seats. It isn't `Drop`: [`Player::end`] closes them.
-pub(crate) struct Player<J: HubSite> {
-    first: Option<Session<J>>,
-    second: Option<Session<J>>,
-    third: Option<Session<J>>,
+pub(crate) struct Player<H: HubCalls> {
+    first: Option<H::Session>,
+    second: Option<H::Session>,
+    third: Option<H::Session>,
     /// The lines that came since a `look`, and wait for its first `offer`.
     waiting: Option<Vec<String>>,
 }
 
 /// What a firing has played once it looked, before it takes the lock of the first seat that is named.
-struct Interlude<J: HubSite> {
-    player: Player<J>,
+struct Interlude<H: HubCalls> {
+    player: Player<H>,
     lines: Vec<String>,
     text: Option<Vec<u8>>,
 }
 
 /// A gate at which an interlude is played.
-struct Between<'a, J: HubSite, R: Wait> {
+struct Between<'a, H: HubCalls, R: Wait> {
     rt: &'a R,
     alloc: Global,
-    hub: &'a Hub<J>,
-    interlude: Mutex<Interlude<J>>,
+    hub: &'a H,
+    interlude: Mutex<Interlude<H>>,
 }
 
-impl<J: HubSite, R: Wait> Gate for Between<'_, J, R> {
+impl<H: HubCalls, R: Wait> Gate for Between<'_, H, R> {
     fn at(&self, _cpu: u32, _seat: u32, moment: Moment) {
         if moment != Moment::Before {
             return;
@@ -43,9 +41,9 @@ impl<J: HubSite, R: Wait> Gate for Between<'_, J, R> {
     }
 }
 
-impl<J: HubSite> Interlude<J> {
+impl<H: HubCalls> Interlude<H> {
     /// Plays the lines that are left, and keeps what is answered. Where one can't be played nothing is kept.
-    fn play<R: Wait>(&mut self, rt: &R, alloc: Global, hub: &Hub<J>) {
+    fn play<R: Wait>(&mut self, rt: &R, alloc: Global, hub: &H) {
         let lines = mem::replace(&mut self.lines, Vec::new(alloc));
         for line in &lines {
             let answer = self.player.take_of_session(rt, alloc, hub, line.as_str());
@@ -62,7 +60,7 @@ fn joined(text: Option<Vec<u8>>, answer: Option<Vec<u8>>) -> Option<Vec<u8>> {
 }
 
 /// Closes a session, if it is there.
-fn close<J: HubSite, R: Wait>(rt: &R, hub: &Hub<J>, session: Option<Session<J>>) {
+fn close<H: HubCalls, R: Wait>(rt: &R, hub: &H, session: Option<H::Session>) {
     match session {
         Some(session) => hub.close(rt, session),
         None => {}
@@ -70,17 +68,16 @@ fn close<J: HubSite, R: Wait>(rt: &R, hub: &Hub<J>, session: Option<Session<J>>)
 }
 
 /// What a session is answered to a line, after its seat's number. An accepted `close` closes it, too, once it was answered.
-fn called<J: HubSite, R: Wait>(
+fn called<H: HubCalls, R: Wait>(
     rt: &R,
     alloc: Global,
-    hub: &Hub<J>,
-    session: &mut Option<Session<J>>,
+    hub: &H,
+    session: &mut Option<H::Session>,
     number: &str,
     line: &str,
 ) -> Option<Vec<u8>> {
-    let asked = Asked::Line(line.as_bytes().to_vec(alloc).ok()?);
     let answer = match session {
-        Some(session) => hub.ask(rt, alloc, session, &asked),
+        Some(session) => hub.ask(rt, alloc, session, line),
         None => return None,
     };
     let mut text = number.as_bytes().to_vec(alloc).ok()?;
@@ -93,15 +90,15 @@ fn called<J: HubSite, R: Wait>(
 }
 
 /// Opens a session in place of another.
-fn open<J: HubSite, R: Wait>(
+fn open<H: HubCalls, R: Wait>(
     rt: &R,
     alloc: Global,
-    hub: &Hub<J>,
-    session: &mut Option<Session<J>>,
+    hub: &H,
+    session: &mut Option<H::Session>,
     name: &str,
 ) -> Option<Vec<u8>> {
     close(rt, hub, session.take());
-    match hub.open(rt, alloc, name.as_bytes()) {
+    match hub.open(rt, alloc, name) {
         Ok(opened) => {
             close(rt, hub, session.replace(opened));
             Some(Vec::new(alloc))
@@ -111,11 +108,11 @@ fn open<J: HubSite, R: Wait>(
 }
 
 /// Plays a line of a seat.
-fn act<J: HubSite, R: Wait>(
+fn act<H: HubCalls, R: Wait>(
     rt: &R,
     alloc: Global,
-    hub: &Hub<J>,
-    session: &mut Option<Session<J>>,
+    hub: &H,
+    session: &mut Option<H::Session>,
     word: &str,
     number: &str,
     more: &str,
@@ -132,26 +129,25 @@ fn act<J: HubSite, R: Wait>(
 }
 
 /// Whether a session traces, as its own `status` is answered. A session that traces now has traced since its `go`.
-fn traces<J: HubSite, R: Wait>(
+fn traces<H: HubCalls, R: Wait>(
     rt: &R,
     alloc: Global,
-    hub: &Hub<J>,
-    session: &mut Session<J>,
+    hub: &H,
+    session: &mut H::Session,
 ) -> Option<bool> {
-    let asked = Asked::Line(STATUS.as_bytes().to_vec(alloc).ok()?);
-    let answer = hub.ask(rt, alloc, session, &asked);
+    let answer = hub.ask(rt, alloc, session, STATUS);
     let text = str::from_utf8(answer.text()).ok()?;
     Some(text.contains(r#""phase":"active""#))
 }
 
 /// Tells a processor what a session knows, or lets the two meet: then it says how many items the trail has, and that it is complete, where the session still traces: then it
 /// lacks no firing that the processor made for the session once it knew of its `go`.
-fn joins<J: HubSite, R: Wait>(
+fn joins<H: HubCalls, R: Wait>(
     rt: &R,
     alloc: Global,
-    hub: &Hub<J>,
-    session: &mut Option<Session<J>>,
-    token: &mut CpuSeat<J>,
+    hub: &H,
+    session: &mut Option<H::Session>,
+    token: &mut H::Token,
     word: &str,
     number: &str,
 ) -> Option<Vec<u8>> {
@@ -176,8 +172,8 @@ fn joins<J: HubSite, R: Wait>(
     Some(text.into_bytes())
 }
 
-impl<J: HubSite> Player<J> {
-    pub(crate) fn new() -> Player<J> {
+impl<H: HubCalls> Player<H> {
+    pub(crate) fn new() -> Player<H> {
         Player {
             first: None,
             second: None,
@@ -191,8 +187,8 @@ impl<J: HubSite> Player<J> {
         &mut self,
         rt: &R,
         alloc: Global,
-        hub: &Hub<J>,
-        tokens: &mut Vec<CpuSeat<J>>,
+        hub: &H,
+        tokens: &mut Vec<H::Token>,
         line: &str,
     ) -> Option<Vec<u8>> {
         let (word, rest) = line.split_once(' ')?;
@@ -231,7 +227,7 @@ impl<J: HubSite> Player<J> {
         &mut self,
         rt: &R,
         alloc: Global,
-        hub: &Hub<J>,
+        hub: &H,
         line: &str,
     ) -> Option<Vec<u8>> {
         let (word, rest) = line.split_once(' ')?;
@@ -249,8 +245,8 @@ impl<J: HubSite> Player<J> {
         &mut self,
         rt: &R,
         alloc: Global,
-        hub: &Hub<J>,
-        token: &mut CpuSeat<J>,
+        hub: &H,
+        token: &mut H::Token,
     ) -> Option<Vec<u8>> {
         let Some(lines) = self.waiting.take() else {
             return Some(Vec::new(alloc));
@@ -283,7 +279,7 @@ impl<J: HubSite> Player<J> {
     }
 
     /// Closes the sessions.
-    pub(crate) fn end<R: Wait>(self, rt: &R, hub: &Hub<J>) {
+    pub(crate) fn end<R: Wait>(self, rt: &R, hub: &H) {
         let Player {
             first,
             second,

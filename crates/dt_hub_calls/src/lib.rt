@@ -1,6 +1,6 @@
 //! What the tests of `dt_hub` have in common, those in one thread and those in several.
 //!
-//! Here stand the calls that are tested, each in a function that promises nothing; the texts that both crates of tests ask and are answered; the row that a
+//! Here stand the calls that are tested, as traits that promise nothing; the texts that both crates of tests ask and are answered; the row that a
 //! session and a processor share, computed from what each of them was told; and a trail as a text. A function here says what is wrong, and the tests assert it.
 #![tactic(auto)]
 
@@ -10,7 +10,7 @@ mod shared_row;
 pub mod texts;
 mod trails;
 
-pub use calls::{answered, at_seat, fired, meets, two_of};
+pub use calls::{HubCalls, SessionCalls, TokenCalls, at_seat, two_of};
 pub use scripts::with_scripts;
 pub use shared_row::{LifeHeard, RowFault, Sight, meet_heard};
 pub use trails::trail_text;

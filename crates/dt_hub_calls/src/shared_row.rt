@@ -1,7 +1,7 @@
 //! The row that a session and a processor share, computed from what the processor was answered and from the session's trail.
-use crate::calls::meets;
+use crate::calls::{HubCalls, SessionCalls, TokenCalls};
 use dt_chain::Seat;
-use dt_hub::{CpuSeat, Hub, HubSite, KnownItem, Offered, Session};
+use dt_hub::{KnownItem, Offered};
 use std::alloc::{AllocError, Global};
 use std::sync::Wait;
 
@@ -27,7 +27,7 @@ pub struct LifeHeard {
 
 impl LifeHeard {
     /// Before anything was answered of the life.
-    pub fn new<J: HubSite>(alloc: Global, session: &Session<J>) -> LifeHeard {
+    pub fn new<S: SessionCalls>(alloc: Global, session: &S) -> LifeHeard {
         LifeHeard {
             seat: session.seat(),
             life: session.life(),
@@ -37,10 +37,10 @@ impl LifeHeard {
     }
 
     /// Before anything was answered of a later life of the seat, by a processor that has fired as often.
-    pub fn next<J: HubSite>(
+    pub fn next<S: SessionCalls>(
         &self,
         alloc: Global,
-        session: &Session<J>,
+        session: &S,
     ) -> Result<LifeHeard, AllocError> {
         let mut heard = LifeHeard::new(alloc, session);
         for answer in &self.places {
@@ -59,9 +59,9 @@ impl LifeHeard {
     }
 
     /// The processor has fired: what this came to at the life.
-    pub fn fired<J: HubSite>(
+    pub fn fired<T: TokenCalls>(
         &mut self,
-        token: &CpuSeat<J>,
+        token: &T,
         is_wanted: bool,
     ) -> Result<Offered, AllocError> {
         let came = if token.named().life_of(self.seat) == Some(self.life) {
@@ -319,9 +319,9 @@ fn fault_of(
 }
 
 /// The items that a session knows.
-fn known_items<J: HubSite>(
+fn known_items<S: SessionCalls>(
     alloc: Global,
-    session: &mut Session<J>,
+    session: &mut S,
 ) -> Result<Vec<KnownItem>, AllocError> {
     let mut items = Vec::new(alloc);
     for k in 0..u64::MAX {
@@ -334,10 +334,10 @@ fn known_items<J: HubSite>(
 }
 
 /// The trail that a session knows and the firings of a processor stand in one row: how many items the session knows, or what is wrong with that row.
-fn shares<J: HubSite>(
+fn shares<S: SessionCalls, T: TokenCalls>(
     alloc: Global,
-    session: &mut Session<J>,
-    token: &CpuSeat<J>,
+    session: &mut S,
+    token: &T,
     heard: &LifeHeard,
     sight: Sight,
 ) -> Result<Result<u64, RowFault>, AllocError> {
@@ -352,16 +352,16 @@ fn shares<J: HubSite>(
 
 /// A session and a processor meet. The session then knows so many items, which are all, and the processor's firings stand with these in one row; or something is wrong
 /// with that.
-pub fn meet_heard<J: HubSite, R: Wait>(
+pub fn meet_heard<H: HubCalls, R: Wait>(
     rt: &R,
     alloc: Global,
-    hub: &Hub<J>,
-    session: &mut Session<J>,
-    token: &mut CpuSeat<J>,
+    hub: &H,
+    session: &mut H::Session,
+    token: &mut H::Token,
     heard: &mut LifeHeard,
     sight: Sight,
 ) -> Result<Result<u64, RowFault>, AllocError> {
-    meets(rt, hub, session, token);
+    hub.meet(rt, session, token);
     let shared = shares(alloc, session, token, heard, sight)?;
     let Ok(count) = shared else {
         return Ok(shared);

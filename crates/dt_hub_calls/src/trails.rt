@@ -1,5 +1,6 @@
 //! The text of a session's trail, for who judges it.
-use dt_hub::{HubSite, KnownItem, Session};
+use crate::calls::SessionCalls;
+use dt_hub::KnownItem;
 use dt_trail::ItemKind;
 use std::alloc::{AllocError, Global};
 
@@ -10,9 +11,9 @@ fn put_firing(alloc: Global, text: &mut Vec<u8>, cpu: u32, place: u32) -> Result
 }
 
 /// Adds a line of a session, by its number among these, with its reply.
-fn put_line<J: HubSite>(
+fn put_line<S: SessionCalls>(
     text: &mut Vec<u8>,
-    session: &Session<J>,
+    session: &S,
     number: usize,
     replies: &[Vec<u8>],
 ) -> Result<(), AllocError> {
@@ -28,10 +29,10 @@ fn put_line<J: HubSite>(
 }
 
 /// Adds an item, and says whether it is a firing.
-fn put_item<J: HubSite>(
+fn put_item<S: SessionCalls>(
     alloc: Global,
     text: &mut Vec<u8>,
-    session: &Session<J>,
+    session: &S,
     item: KnownItem,
     replies: &[Vec<u8>],
 ) -> Result<bool, AllocError> {
@@ -54,9 +55,9 @@ fn headed(alloc: Global, name: &str) -> Result<Vec<u8>, AllocError> {
 }
 
 /// The items that a session knows, each line with its reply, as `check` reads them, and how many of them are firings.
-pub fn trail_text<J: HubSite>(
+pub fn trail_text<S: SessionCalls>(
     alloc: Global,
-    session: &mut Session<J>,
+    session: &mut S,
     name: &str,
     replies: &[Vec<u8>],
 ) -> Result<(Vec<u8>, u64), AllocError> {

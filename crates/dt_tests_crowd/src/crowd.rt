@@ -3,8 +3,8 @@ use crate::calls::opened;
 use crate::scenes::{Scene, run};
 use crate::stays::{Firer, Stay, judged};
 use dt_chain::SEATS;
-use dt_hub::{CpuSeat, Fired, Hub, HubSite, NoGate, Offered, Session};
-use dt_hub_calls::{answered, at_seat, fired, with_scripts};
+use dt_hub::{CpuSeat, Fired, Hub, HubSite, NoGate, Offered};
+use dt_hub_calls::{HubCalls, TokenCalls, at_seat, with_scripts};
 use dt_machine::Machine;
 use std::alloc::{AllocError, Global};
 use std::process::Abort;
@@ -54,9 +54,9 @@ fn machine(alloc: Global) -> Result<String, Fail> {
 
 /// What a thread does.
 #[derive(Drop)]
-enum Work<J: HubSite> {
+enum Work<T: TokenCalls> {
     /// Fires a round of a script.
-    Fire(Firer<J>),
+    Fire(Firer<T>),
     /// Opens sessions of this account, one after the other, while a processor fires.
     Trace(&'static str),
 }
@@ -101,7 +101,7 @@ impl Board {
 }
 
 /// How many sessions kept a processor's last firing, on whichever seats they are: who opens a session passes over a seat that is locked.
-fn kept_by<J: HubSite>(token: &CpuSeat<J>) -> u64 {
+fn kept_by<T: TokenCalls>(token: &T) -> u64 {
     let mut count = 0u64;
     for seat in 0..SEATS as u32 {
         if at_seat(token, seat) == Offered::Kept {
@@ -112,15 +112,15 @@ fn kept_by<J: HubSite>(token: &CpuSeat<J>) -> u64 {
 }
 
 /// Fires a round of a script, which takes some five seconds, and counts what was kept.
-fn fires<J: HubSite, R: Wait + Abort + Clock>(
+fn fires<H: HubCalls, R: Wait + Abort + Clock>(
     rt: &R,
-    hub: &Hub<J>,
+    hub: &H,
     board: &Board,
-    firer: &mut Firer<J>,
+    firer: &mut Firer<H::Token>,
 ) -> u64 {
     let mut count = 0u64;
     for _ in 0..ROUND {
-        if let Fired::At(place) = fired(rt, hub, &mut firer.token, &NoGate) {
+        if let Fired::At(place) = hub.fire(rt, &mut firer.token, &NoGate) {
             count = count.wrapping_add(kept_by(&firer.token));
             assert!(rt; firer.fired(place).is_ok(), "out of memory");
         }
@@ -131,28 +131,28 @@ fn fires<J: HubSite, R: Wait + Abort + Clock>(
 }
 
 /// Asks lines, and keeps the replies.
-pub(crate) fn asks<J: HubSite, R: Wait>(
+pub(crate) fn asks<H: HubCalls, R: Wait>(
     rt: &R,
     alloc: Global,
-    hub: &Hub<J>,
-    session: &mut Session<J>,
+    hub: &H,
+    session: &mut H::Session,
     lines: &[&str],
     replies: &mut Vec<Vec<u8>>,
 ) -> Result<(), AllocError> {
     for line in lines {
-        let answer = answered(rt, alloc, hub, session, line);
+        let answer = hub.ask(rt, alloc, session, line);
         replies.push(answer.text().to_vec(alloc)?)?;
     }
     Ok(())
 }
 
 /// One session that traces for a while. Its trail is judged, and its firings are counted.
-fn traces<J: HubSite, R: Wait + Abort + Clock>(
+fn traces<H: HubCalls, R: Wait + Abort + Clock>(
     rt: &R,
     alloc: Global,
-    hub: &Hub<J>,
+    hub: &H,
     board: &Board,
-    session: &mut Session<J>,
+    session: &mut H::Session,
     name: &str,
 ) -> Result<u64, AllocError> {
     let mut replies = Vec::new(alloc);
@@ -164,10 +164,10 @@ fn traces<J: HubSite, R: Wait + Abort + Clock>(
 }
 
 /// Opens sessions, one after the other, while a processor fires.
-fn come_and_go<J: HubSite, R: Wait + Abort + Clock>(
+fn come_and_go<H: HubCalls, R: Wait + Abort + Clock>(
     rt: &R,
     alloc: Global,
-    hub: &Hub<J>,
+    hub: &H,
     board: &Board,
     name: &str,
 ) -> u64 {
@@ -189,20 +189,20 @@ fn come_and_go<J: HubSite, R: Wait + Abort + Clock>(
 
 /// What comes of a thread's work.
 #[derive(Drop)]
-struct Done<J: HubSite> {
+struct Done<T: TokenCalls> {
     tally: Tally,
     /// The processor that fired a round.
-    firer: Option<Firer<J>>,
+    firer: Option<Firer<T>>,
 }
 
 /// Does a thread's work.
-fn does<J: HubSite, R: Wait + Abort + Clock>(
+fn does<H: HubCalls, R: Wait + Abort + Clock>(
     rt: &R,
     alloc: Global,
-    hub: &Hub<J>,
+    hub: &H,
     board: &Board,
-    work: Work<J>,
-) -> Done<J> {
+    work: Work<H::Token>,
+) -> Done<H::Token> {
     match work {
         Work::Fire(firer) => {
             let mut firer = firer;
@@ -228,8 +228,8 @@ fn all_do<J: HubSite + Send + Sync, R: Threads + Wait + Abort + Clock + Sync>(
     alloc: Global,
     hub: &Hub<J>,
     board: &Board,
-    works: Vec<Work<J>>,
-) -> Result<(Tally, Vec<Firer<J>>), AllocError> {
+    works: Vec<Work<CpuSeat<J>>>,
+) -> Result<(Tally, Vec<Firer<CpuSeat<J>>>), AllocError> {
     let results = map_vec(rt, works, &move |work| does(rt, alloc, hub, board, work))?;
     let mut all = NOTHING;
     let mut firers = Vec::new(alloc);
@@ -249,8 +249,8 @@ fn round<J: HubSite + Send + Sync, R: Threads + Wait + Abort + Clock + Sync>(
     alloc: Global,
     hub: &Hub<J>,
     board: &Board,
-    firers: Vec<Firer<J>>,
-) -> Result<(Tally, Vec<Firer<J>>), AllocError> {
+    firers: Vec<Firer<CpuSeat<J>>>,
+) -> Result<(Tally, Vec<Firer<CpuSeat<J>>>), AllocError> {
     board.firing.store(4, Ordering::SeqCst);
     let mut works = Vec::new(alloc);
     for firer in firers {
@@ -269,7 +269,7 @@ fn rounds<J: HubSite + Send + Sync, R: Threads + Wait + Abort + Clock + Sync>(
     alloc: Global,
     hub: &Hub<J>,
     board: &Board,
-    stay: &mut Stay<J>,
+    stay: &mut Stay<Hub<J>>,
     tokens: Vec<CpuSeat<J>>,
 ) -> Result<Tally, AllocError> {
     let firers = stay.begins(rt, alloc, hub, tokens)?;

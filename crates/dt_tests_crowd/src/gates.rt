@@ -3,9 +3,9 @@ use crate::calls::{both, opened, says, tracing};
 use crate::flag::Flag;
 use crate::scenes::{Scene, run};
 use dt_chain::SEATS;
-use dt_hub::{CpuSeat, Fired, Gate, Hub, HubSite, Looked, Moment, Offered, Session};
+use dt_hub::{CpuSeat, Fired, Gate, Hub, HubSite, Looked, Moment, Offered};
 use dt_hub_calls::texts::{DONE, MACHINE, STOP};
-use dt_hub_calls::{at_seat, fired};
+use dt_hub_calls::{HubCalls, SessionCalls, at_seat};
 use std::alloc::Global;
 use std::process::Abort;
 use std::sync::Wait;
@@ -128,13 +128,13 @@ impl Meanwhile {
 }
 
 /// A session that traces; then the processor comes to where it is held.
-fn traces<J: HubSite, R: Wait + Abort + Clock>(
+fn traces<H: HubCalls, R: Wait + Abort + Clock>(
     rt: &R,
     alloc: Global,
-    hub: &Hub<J>,
+    hub: &H,
     hold: &Hold<R>,
     stop: &Stop,
-) -> Session<J> {
+) -> H::Session {
     let session = tracing(rt, alloc, hub, "root");
     hold.traces.raise();
     stop.held.wait(rt);
@@ -142,20 +142,20 @@ fn traces<J: HubSite, R: Wait + Abort + Clock>(
 }
 
 /// Fires once the session traces.
-fn fires<J: HubSite, R: Wait + Abort + Clock>(
+fn fires<H: HubCalls, R: Wait + Abort + Clock>(
     rt: &R,
-    hub: &Hub<J>,
-    token: &mut CpuSeat<J>,
+    hub: &H,
+    token: &mut H::Token,
     hold: &Hold<R>,
 ) -> Fired {
     hold.traces.wait(rt);
-    let came = fired(rt, hub, token, hold);
+    let came = hub.fire(rt, token, hold);
     hold.fired.raise();
     came
 }
 
 /// Tracing stops, and then the processor goes on.
-fn stops<J: HubSite, R: Wait + Abort + Clock>(rt: &R, alloc: Global, hub: &Hub<J>, hold: &Hold<R>) {
+fn stops<H: HubCalls, R: Wait + Abort + Clock>(rt: &R, alloc: Global, hub: &H, hold: &Hold<R>) {
     let mut session = traces(rt, alloc, hub, hold, &hold.before);
     says(rt, alloc, hub, &mut session, STOP, DONE);
     hold.before.let_go.raise();
@@ -164,24 +164,14 @@ fn stops<J: HubSite, R: Wait + Abort + Clock>(rt: &R, alloc: Global, hub: &Hub<J
 }
 
 /// The session closes, and then the processor goes on.
-fn closes<J: HubSite, R: Wait + Abort + Clock>(
-    rt: &R,
-    alloc: Global,
-    hub: &Hub<J>,
-    hold: &Hold<R>,
-) {
+fn closes<H: HubCalls, R: Wait + Abort + Clock>(rt: &R, alloc: Global, hub: &H, hold: &Hold<R>) {
     let session = traces(rt, alloc, hub, hold, &hold.before);
     hub.close(rt, session);
     hold.before.let_go.raise();
 }
 
 /// Another session is opened on the seat, and then the processor goes on.
-fn changes<J: HubSite, R: Wait + Abort + Clock>(
-    rt: &R,
-    alloc: Global,
-    hub: &Hub<J>,
-    hold: &Hold<R>,
-) {
+fn changes<H: HubCalls, R: Wait + Abort + Clock>(rt: &R, alloc: Global, hub: &H, hold: &Hold<R>) {
     let session = traces(rt, alloc, hub, hold, &hold.before);
     hub.close(rt, session);
     let session = tracing(rt, alloc, hub, "root");
@@ -192,12 +182,12 @@ fn changes<J: HubSite, R: Wait + Abort + Clock>(
 }
 
 /// Nobody waits for the lock that the processor has: neither who looks, nor who is told, nor who sees a trail.
-fn looks_on<J: HubSite, R: Wait + Abort + Clock>(
+fn looks_on<H: HubCalls, R: Wait + Abort + Clock>(
     rt: &R,
     alloc: Global,
-    hub: &Hub<J>,
+    hub: &H,
     hold: &Hold<R>,
-    other: &mut CpuSeat<J>,
+    other: &mut H::Token,
 ) {
     let mut session = traces(rt, alloc, hub, hold, &hold.locked);
     let receipt = hub.receipt(&mut session);
@@ -212,7 +202,7 @@ fn looks_on<J: HubSite, R: Wait + Abort + Clock>(
 }
 
 /// A line is answered once the processor has let the lock go.
-fn asks<J: HubSite, R: Wait + Abort + Clock>(rt: &R, alloc: Global, hub: &Hub<J>, hold: &Hold<R>) {
+fn asks<H: HubCalls, R: Wait + Abort + Clock>(rt: &R, alloc: Global, hub: &H, hold: &Hold<R>) {
     let mut session = traces(rt, alloc, hub, hold, &hold.locked);
     hold.locked.let_go.raise();
     says(rt, alloc, hub, &mut session, STOP, DONE);
@@ -221,10 +211,10 @@ fn asks<J: HubSite, R: Wait + Abort + Clock>(rt: &R, alloc: Global, hub: &Hub<J>
 }
 
 /// One more session is opened on the first seat, once the processor has let its lock go.
-fn waits_for_a_seat<J: HubSite, R: Wait + Abort + Clock>(
+fn waits_for_a_seat<H: HubCalls, R: Wait + Abort + Clock>(
     rt: &R,
     alloc: Global,
-    hub: &Hub<J>,
+    hub: &H,
     hold: &Hold<R>,
 ) {
     hold.locked.let_go.raise();
@@ -235,10 +225,10 @@ fn waits_for_a_seat<J: HubSite, R: Wait + Abort + Clock>(
 }
 
 /// Opens so many sessions beside the seat whose lock the processor has, and then one more.
-fn opens_beside<J: HubSite, R: Wait + Abort + Clock>(
+fn opens_beside<H: HubCalls, R: Wait + Abort + Clock>(
     rt: &R,
     alloc: Global,
-    hub: &Hub<J>,
+    hub: &H,
     hold: &Hold<R>,
     left: u32,
 ) {
@@ -252,7 +242,7 @@ fn opens_beside<J: HubSite, R: Wait + Abort + Clock>(
 }
 
 /// The only seat that is free is locked: who opens a session waits for it, and isn't told that no seat is free.
-fn opens<J: HubSite, R: Wait + Abort + Clock>(rt: &R, alloc: Global, hub: &Hub<J>, hold: &Hold<R>) {
+fn opens<H: HubCalls, R: Wait + Abort + Clock>(rt: &R, alloc: Global, hub: &H, hold: &Hold<R>) {
     let session = traces(rt, alloc, hub, hold, &hold.before);
     hub.close(rt, session);
     hold.before.let_go.raise();

@@ -4,7 +4,7 @@ use crate::flag::Flag;
 use crate::scenes::{Scene, run};
 use dt_hub::{CpuSeat, Fired, Gate, Hub, HubSite, Moment, Offered};
 use dt_hub_calls::texts::{DONE, GO};
-use dt_hub_calls::{at_seat, fired};
+use dt_hub_calls::{HubCalls, at_seat};
 use std::alloc::Global;
 use std::process::Abort;
 use std::sync::Wait;
@@ -62,11 +62,7 @@ fn both_fire<J: HubSite + Send + Sync, R: Threads + Wait + Abort + Clock + Sync>
     other: &mut CpuSeat<J>,
     gate: &Meeting<R>,
 ) -> (Fired, Fired) {
-    join(
-        rt,
-        || fired(rt, hub, one, gate),
-        || fired(rt, hub, other, gate),
-    )
+    join(rt, || hub.fire(rt, one, gate), || hub.fire(rt, other, gate))
 }
 
 /// Two sessions, of which the first enabled what processor 0 fires and the second all, and two processors on threads of their own. `shared` is what the firing of processor 1

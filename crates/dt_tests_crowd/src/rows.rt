@@ -3,8 +3,8 @@ use crate::calls::opened;
 use crate::crowd::asks;
 use crate::scenes::{Scene, run};
 use dt_alone::{Verdict, check};
-use dt_hub::{CpuSeat, Fired, Hub, HubSite, NoGate, Offered, Session};
-use dt_hub_calls::{at_seat, fired, meets, trail_text};
+use dt_hub::{CpuSeat, Fired, Hub, HubSite, NoGate, Offered};
+use dt_hub_calls::{HubCalls, TokenCalls, at_seat, trail_text};
 use dt_machine::Machine;
 use std::alloc::{AllocError, Global};
 use std::process::Abort;
@@ -99,16 +99,16 @@ impl Row {
 
 /// What a thread does.
 #[derive(Drop)]
-enum Part<J: HubSite> {
+enum Part<T: TokenCalls> {
     /// Asks a row's lines before all firings and after them, and meets each processor.
     Ask(Row),
     /// Fires a script to its end once all sessions trace.
-    Fire(CpuSeat<J>),
+    Fire(T),
 }
 
 /// What the threads share beside the hub.
 #[derive(Drop)]
-struct Board<J: HubSite> {
+struct Board<T: TokenCalls> {
     /// The machine again, to judge trails on.
     machine: Machine,
     /// How many sessions were opened.
@@ -119,7 +119,7 @@ struct Board<J: HubSite> {
     fired: AtomicU64,
     /// How many processors were put by, once they had fired all that they had.
     ended: AtomicU64,
-    processors: Mutex<Vec<CpuSeat<J>>>,
+    processors: Mutex<Vec<T>>,
 }
 
 /// Waits until a count has come so far.
@@ -134,13 +134,13 @@ fn wait_for<R: Abort + Clock>(rt: &R, count: &AtomicU64, wanted: u64) {
 }
 
 /// A session asks its row's lines: its `go` is answered before any processor fires, and its last lines come after all firings.
-fn asks_row<J: HubSite, R: Wait + Abort + Clock>(
+fn asks_row<H: HubCalls, R: Wait + Abort + Clock>(
     rt: &R,
     alloc: Global,
-    hub: &Hub<J>,
-    board: &Board<J>,
+    hub: &H,
+    board: &Board<H::Token>,
     row: Row,
-    session: &mut Session<J>,
+    session: &mut H::Session,
 ) -> Result<Vec<Vec<u8>>, AllocError> {
     let mut replies = Vec::new(alloc);
     let first = asks(rt, alloc, hub, session, &row.first_lines(), &mut replies);
@@ -152,26 +152,26 @@ fn asks_row<J: HubSite, R: Wait + Abort + Clock>(
 }
 
 /// A session meets each processor, once all have fired.
-fn meets_all<J: HubSite, R: Wait + Abort + Clock>(
+fn meets_all<H: HubCalls, R: Wait + Abort + Clock>(
     rt: &R,
-    hub: &Hub<J>,
-    board: &Board<J>,
-    session: &mut Session<J>,
+    hub: &H,
+    board: &Board<H::Token>,
+    session: &mut H::Session,
 ) {
     wait_for(rt, &board.ended, PROCESSORS);
     let mut processors = board.processors.lock(rt);
     for token in processors.iter_mut() {
-        meets(rt, hub, session, token);
+        hub.meet(rt, session, token);
     }
     MutexGuard::unlock(processors);
 }
 
 /// A row's session, which meets each processor at last. Its trail is judged with the replies.
-fn plays_row<J: HubSite, R: Wait + Abort + Clock>(
+fn plays_row<H: HubCalls, R: Wait + Abort + Clock>(
     rt: &R,
     alloc: Global,
-    hub: &Hub<J>,
-    board: &Board<J>,
+    hub: &H,
+    board: &Board<H::Token>,
     row: Row,
 ) -> Result<(), AllocError> {
     wait_for(rt, &board.opened, row.seat());
@@ -191,17 +191,17 @@ fn plays_row<J: HubSite, R: Wait + Abort + Clock>(
 
 /// A processor that was told nothing fires once each session traces: each firing of the third probe is kept at the seats of both sessions that go on, and no life is
 /// gone.
-fn fires_row<J: HubSite, R: Wait + Abort + Clock>(
+fn fires_row<H: HubCalls, R: Wait + Abort + Clock>(
     rt: &R,
-    hub: &Hub<J>,
-    board: &Board<J>,
-    token: CpuSeat<J>,
+    hub: &H,
+    board: &Board<H::Token>,
+    token: H::Token,
 ) -> Result<(), AllocError> {
     let mut token = token;
     wait_for(rt, &board.tracing, SESSIONS);
     let cpu = token.cpu();
     for _ in 0..FIRINGS {
-        let Fired::At(place) = fired(rt, hub, &mut token, &NoGate) else {
+        let Fired::At(place) = hub.fire(rt, &mut token, &NoGate) else {
             break;
         };
         if cpu != 0 || place != OTHER {
@@ -224,12 +224,12 @@ fn fires_row<J: HubSite, R: Wait + Abort + Clock>(
 }
 
 /// Does a thread's part.
-fn does<J: HubSite, R: Wait + Abort + Clock>(
+fn does<H: HubCalls, R: Wait + Abort + Clock>(
     rt: &R,
     alloc: Global,
-    hub: &Hub<J>,
-    board: &Board<J>,
-    part: Part<J>,
+    hub: &H,
+    board: &Board<H::Token>,
+    part: Part<H::Token>,
 ) -> Result<(), AllocError> {
     match part {
         Part::Ask(row) => plays_row(rt, alloc, hub, board, row),
@@ -242,8 +242,8 @@ fn all_do<J: HubSite + Send + Sync, R: Threads + Wait + Abort + Clock + Sync>(
     rt: &R,
     alloc: Global,
     hub: &Hub<J>,
-    board: &Board<J>,
-    parts: Vec<Part<J>>,
+    board: &Board<CpuSeat<J>>,
+    parts: Vec<Part<CpuSeat<J>>>,
 ) -> Result<(), AllocError> {
     let results = map_vec(rt, parts, &move |part| does(rt, alloc, hub, board, part))?;
     for result in results {

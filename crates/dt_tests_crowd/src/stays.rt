@@ -1,8 +1,8 @@
 //! Two sessions that stay while others come and go, and meet each processor.
 use crate::crowd::{Board, asks};
 use dt_alone::{Verdict, check};
-use dt_hub::{CpuSeat, Fired, Hub, HubSite, NoGate, Session};
-use dt_hub_calls::{LifeHeard, Sight, fired, meet_heard, trail_text};
+use dt_hub::{Fired, NoGate};
+use dt_hub_calls::{HubCalls, LifeHeard, SessionCalls, Sight, TokenCalls, meet_heard, trail_text};
 use std::alloc::{AllocError, Global};
 use std::process::Abort;
 use std::sync::Wait;
@@ -45,13 +45,13 @@ const SECOND: Sight = Sight {
 
 /// A processor, and what it was answered of the two sessions.
 #[derive(Drop)]
-pub(crate) struct Firer<J: HubSite> {
-    pub(crate) token: CpuSeat<J>,
+pub(crate) struct Firer<T: TokenCalls> {
+    pub(crate) token: T,
     first: LifeHeard,
     second: LifeHeard,
 }
 
-impl<J: HubSite> Firer<J> {
+impl<T: TokenCalls> Firer<T> {
     /// Has fired at this place. The second session sees the firings of one probe by one process.
     pub(crate) fn fired(&mut self, place: u32) -> Result<(), AllocError> {
         self.first.fired(&self.token, true)?;
@@ -60,9 +60,14 @@ impl<J: HubSite> Firer<J> {
     }
 
     /// Fires so often, unless its script ends.
-    fn fires<R: Wait>(&mut self, rt: &R, hub: &Hub<J>, most: u32) -> Result<(), AllocError> {
+    fn fires<H: HubCalls<Token = T>, R: Wait>(
+        &mut self,
+        rt: &R,
+        hub: &H,
+        most: u32,
+    ) -> Result<(), AllocError> {
         for _ in 0..most {
-            if let Fired::At(place) = fired(rt, hub, &mut self.token, &NoGate) {
+            if let Fired::At(place) = hub.fire(rt, &mut self.token, &NoGate) {
                 self.fired(place)?;
             }
         }
@@ -71,15 +76,15 @@ impl<J: HubSite> Firer<J> {
 }
 
 /// The two sessions, and what they were answered.
-pub(crate) struct Stay<J: HubSite> {
-    first: Session<J>,
-    second: Session<J>,
+pub(crate) struct Stay<H: HubCalls> {
+    first: H::Session,
+    second: H::Session,
     first_replies: Vec<Vec<u8>>,
     second_replies: Vec<Vec<u8>>,
 }
 
-impl<J: HubSite> Stay<J> {
-    pub(crate) fn new(alloc: Global, first: Session<J>, second: Session<J>) -> Stay<J> {
+impl<H: HubCalls> Stay<H> {
+    pub(crate) fn new(alloc: Global, first: H::Session, second: H::Session) -> Stay<H> {
         Stay {
             first,
             second,
@@ -89,7 +94,7 @@ impl<J: HubSite> Stay<J> {
     }
 
     /// Both sessions close.
-    pub(crate) fn closes<R: Wait>(self, rt: &R, hub: &Hub<J>) {
+    pub(crate) fn closes<R: Wait>(self, rt: &R, hub: &H) {
         let Stay {
             first,
             second,
@@ -105,7 +110,7 @@ impl<J: HubSite> Stay<J> {
         &mut self,
         rt: &R,
         alloc: Global,
-        hub: &Hub<J>,
+        hub: &H,
         first: &[&str],
         second: &[&str],
     ) -> Result<(), AllocError> {
@@ -132,9 +137,9 @@ impl<J: HubSite> Stay<J> {
         &mut self,
         rt: &R,
         alloc: Global,
-        hub: &Hub<J>,
-        tokens: Vec<CpuSeat<J>>,
-    ) -> Result<Vec<Firer<J>>, AllocError> {
+        hub: &H,
+        tokens: Vec<H::Token>,
+    ) -> Result<Vec<Firer<H::Token>>, AllocError> {
         self.asks(rt, alloc, hub, &FIRST_LINES, &SECOND_LINES)?;
         let mut firers = Vec::new(alloc);
         for token in tokens {
@@ -154,8 +159,8 @@ impl<J: HubSite> Stay<J> {
         &mut self,
         rt: &R,
         alloc: Global,
-        hub: &Hub<J>,
-        firers: &mut Vec<Firer<J>>,
+        hub: &H,
+        firers: &mut Vec<Firer<H::Token>>,
         most: u32,
     ) -> Result<(), AllocError> {
         for firer in firers {
@@ -178,8 +183,8 @@ impl<J: HubSite> Stay<J> {
         &mut self,
         rt: &R,
         alloc: Global,
-        hub: &Hub<J>,
-        firers: &mut Vec<Firer<J>>,
+        hub: &H,
+        firers: &mut Vec<Firer<H::Token>>,
     ) -> Result<(), AllocError> {
         let known = hub.seen(&mut self.second);
         for firer in firers {
@@ -203,9 +208,9 @@ impl<J: HubSite> Stay<J> {
         &mut self,
         rt: &R,
         alloc: Global,
-        hub: &Hub<J>,
+        hub: &H,
         board: &Board,
-        firers: &mut Vec<Firer<J>>,
+        firers: &mut Vec<Firer<H::Token>>,
         most: u32,
     ) -> Result<u64, AllocError> {
         self.meets_all(rt, alloc, hub, firers, 0)?;
@@ -232,11 +237,11 @@ impl<J: HubSite> Stay<J> {
 }
 
 /// A session's trail is answered as it is due. Answers how many firings are on it.
-pub(crate) fn judged<J: HubSite, R: Abort>(
+pub(crate) fn judged<S: SessionCalls, R: Abort>(
     rt: &R,
     alloc: Global,
     board: &Board,
-    session: &mut Session<J>,
+    session: &mut S,
     name: &str,
     replies: &[Vec<u8>],
 ) -> Result<u64, AllocError> {

@@ -2,8 +2,8 @@
 ghost use Rattle.std.specs.Prelude.{◌≡◌};
 
 use dt_chain::SEATS;
-use dt_hub::{CpuSeat, Hub, HubParts, HubSite, Offered, Session};
-use dt_hub_calls::{answered, at_seat, two_of};
+use dt_hub::{Hub, HubParts, HubSite, Offered};
+use dt_hub_calls::{HubCalls, TokenCalls, at_seat, two_of};
 use dt_machine::Machine;
 use std::alloc::Global;
 use std::marker::Brand;
@@ -13,12 +13,12 @@ use std::test::Fail;
 
 /// What a test does with a hub, and with the tokens of its processors.
 pub(crate) trait Play {
-    fn play<J: HubSite, R: Wait + Abort>(
+    fn play<H: HubCalls, R: Wait + Abort>(
         &self,
         rt: &R,
         alloc: Global,
-        hub: &Hub<J>,
-        tokens: Vec<CpuSeat<J>>,
+        hub: &H,
+        tokens: Vec<H::Token>,
     ) -> Result<(), Fail>;
 }
 
@@ -51,45 +51,36 @@ fn staged<J: HubSite, R: Wait + Abort, P: Play>(
 }
 
 /// The tokens of a machine's two processors.
-pub(crate) fn both<J: HubSite, R: Abort>(
-    rt: &R,
-    tokens: Vec<CpuSeat<J>>,
-) -> Result<(CpuSeat<J>, CpuSeat<J>), Fail> {
+pub(crate) fn both<T: Drop, R: Abort>(rt: &R, tokens: Vec<T>) -> Result<(T, T), Fail> {
     assert_eq!(rt; tokens.len(), 2);
     Ok(two_of(tokens).ok_or("no processor")?)
 }
 
 /// A session that is opened: there has to be a seat, and memory.
-pub(crate) fn opened<J: HubSite, R: Wait + Abort>(
+pub(crate) fn opened<H: HubCalls, R: Wait + Abort>(
     rt: &R,
     alloc: Global,
-    hub: &Hub<J>,
+    hub: &H,
     name: &str,
-) -> Session<J> {
-    hub.open(rt, alloc, name.as_bytes())
-        .expect(rt, "no session")
+) -> H::Session {
+    hub.open(rt, alloc, name).expect(rt, "no session")
 }
 
 /// A line is answered by this text.
-pub(crate) fn says<J: HubSite, R: Wait + Abort>(
+pub(crate) fn says<H: HubCalls, R: Wait + Abort>(
     rt: &R,
     alloc: Global,
-    hub: &Hub<J>,
-    session: &mut Session<J>,
+    hub: &H,
+    session: &mut H::Session,
     line: &str,
     reply: &str,
 ) {
-    let answer = answered(rt, alloc, hub, session, line);
+    let answer = hub.ask(rt, alloc, session, line);
     assert!(rt; answer.text() == reply.as_bytes(), "another reply");
 }
 
 /// The last firing came to this at one seat, and named no other.
-pub(crate) fn only_at<J: HubSite, R: Abort>(
-    rt: &R,
-    token: &CpuSeat<J>,
-    number: u32,
-    came: Offered,
-) {
+pub(crate) fn only_at<T: TokenCalls, R: Abort>(rt: &R, token: &T, number: u32, came: Offered) {
     for other in 0..SEATS as u32 {
         let expected = if other == number {
             came

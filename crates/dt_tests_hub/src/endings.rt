@@ -1,7 +1,7 @@
 //! What an answer tells of its session's end.
 use crate::calls::{Play, opened, run};
-use dt_hub::{CpuSeat, Hub, HubSite, LineAnswer};
-use dt_hub_calls::answered;
+use dt_hub::LineAnswer;
+use dt_hub_calls::HubCalls;
 use dt_hub_calls::texts::{DONE, MACHINE};
 use std::alloc::Global;
 use std::process::Abort;
@@ -19,16 +19,16 @@ const QUOTA: u32 = 1_024;
 struct Ends;
 
 impl Play for Ends {
-    fn play<J: HubSite, R: Wait + Abort>(
+    fn play<H: HubCalls, R: Wait + Abort>(
         &self,
         rt: &R,
         alloc: Global,
-        hub: &Hub<J>,
-        tokens: Vec<CpuSeat<J>>,
+        hub: &H,
+        tokens: Vec<H::Token>,
     ) -> Result<(), Fail> {
         drop(tokens);
         let mut first = opened(rt, alloc, hub, "root");
-        let answer = answered(rt, alloc, hub, &mut first, CLOSE);
+        let answer = hub.ask(rt, alloc, &mut first, CLOSE);
         assert!(rt;
             matches!(answer, LineAnswer::Closed(_)),
             "not told as closed"
@@ -37,13 +37,13 @@ impl Play for Ends {
         hub.close(rt, first);
         let mut second = opened(rt, alloc, hub, "root");
         for _ in 0..QUOTA {
-            let answer = answered(rt, alloc, hub, &mut second, STATUS);
+            let answer = hub.ask(rt, alloc, &mut second, STATUS);
             assert!(rt;
                 matches!(answer, LineAnswer::Reply(_)),
                 "not told as going on"
             );
         }
-        let answer = answered(rt, alloc, hub, &mut second, CLOSE);
+        let answer = hub.ask(rt, alloc, &mut second, CLOSE);
         assert!(rt;
             matches!(answer, LineAnswer::Quota(_)),
             "not told as over the quota"

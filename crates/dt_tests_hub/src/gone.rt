@@ -2,30 +2,30 @@
 use crate::calls::{Play, both, run};
 use crate::met::{Firing, GOES, MACHINE, comes_to, meet};
 use crate::paths::tracing;
-use dt_hub::{CpuSeat, Fired, Gate, Hub, HubSite, Moment, Offered, Session};
-use dt_hub_calls::{at_seat, fired};
+use dt_hub::{Fired, Gate, Moment, Offered};
+use dt_hub_calls::{HubCalls, SessionCalls, at_seat};
 use std::alloc::{AllocError, Global};
 use std::process::Abort;
 use std::sync::{Mutex, MutexGuard, Wait};
 use std::test::Fail;
 
 /// A gate at which a session closes and another is opened, before the processor takes the lock of their seat.
-struct Change<'a, J: HubSite, R: Wait + Abort> {
+struct Change<'a, H: HubCalls, R: Wait + Abort> {
     rt: &'a R,
     alloc: Global,
-    hub: &'a Hub<J>,
-    session: Mutex<Option<Session<J>>>,
+    hub: &'a H,
+    session: Mutex<Option<H::Session>>,
 }
 
-impl<J: HubSite, R: Wait + Abort> Change<'_, J, R> {
+impl<H: HubCalls, R: Wait + Abort> Change<'_, H, R> {
     /// The session closes, and another is opened.
-    fn next(&self, session: Session<J>) -> Session<J> {
+    fn next(&self, session: H::Session) -> H::Session {
         self.hub.close(self.rt, session);
         tracing(self.rt, self.alloc, self.hub, "root")
     }
 }
 
-impl<J: HubSite, R: Wait + Abort> Gate for Change<'_, J, R> {
+impl<H: HubCalls, R: Wait + Abort> Gate for Change<'_, H, R> {
     fn at(&self, _cpu: u32, _seat: u32, moment: Moment) {
         if moment != Moment::Before {
             return;
@@ -42,20 +42,20 @@ impl<J: HubSite, R: Wait + Abort> Gate for Change<'_, J, R> {
 }
 
 /// A processor fires as a session closes and another is opened: the life that was named is gone. Answers the session that is open then.
-fn finds_gone<J: HubSite, R: Wait + Abort>(
+fn finds_gone<H: HubCalls, R: Wait + Abort>(
     rt: &R,
     alloc: Global,
-    hub: &Hub<J>,
-    session: Session<J>,
-    firing: &mut Firing<J>,
-) -> Result<Session<J>, Fail> {
+    hub: &H,
+    session: H::Session,
+    firing: &mut Firing<H::Token>,
+) -> Result<H::Session, Fail> {
     let gate = Change {
         rt,
         alloc,
         hub,
         session: Mutex::new(Some(session)),
     };
-    let came = fired(rt, hub, &mut firing.token, &gate);
+    let came = hub.fire(rt, &mut firing.token, &gate);
     let Change {
         rt: _rt,
         alloc: _alloc,
@@ -68,12 +68,12 @@ fn finds_gone<J: HubSite, R: Wait + Abort>(
 }
 
 /// The processor meets the session, fires for it, and meets it again.
-fn meets_the_next<J: HubSite, R: Wait + Abort>(
+fn meets_the_next<H: HubCalls, R: Wait + Abort>(
     rt: &R,
     alloc: Global,
-    hub: &Hub<J>,
-    session: &mut Session<J>,
-    firing: &mut Firing<J>,
+    hub: &H,
+    session: &mut H::Session,
+    firing: &mut Firing<H::Token>,
 ) -> Result<(), AllocError> {
     assert_eq!(rt; (session.seat().number(), session.life()), (0, 1));
     firing.found_gone(alloc, session)?;
@@ -87,12 +87,12 @@ fn meets_the_next<J: HubSite, R: Wait + Abort>(
 struct Closing;
 
 impl Play for Closing {
-    fn play<J: HubSite, R: Wait + Abort>(
+    fn play<H: HubCalls, R: Wait + Abort>(
         &self,
         rt: &R,
         alloc: Global,
-        hub: &Hub<J>,
-        tokens: Vec<CpuSeat<J>>,
+        hub: &H,
+        tokens: Vec<H::Token>,
     ) -> Result<(), Fail> {
         let (one, _other) = both(rt, tokens)?;
         let session = tracing(rt, alloc, hub, "root");

@@ -1,8 +1,8 @@
 //! A history that two scripts make, and that widens its trail.
 use crate::calls::{Play, both, opened, run, says};
-use dt_hub::{CpuSeat, Fired, Hub, HubSite, NoGate};
+use dt_hub::{Fired, NoGate};
 use dt_hub_calls::texts::{DONE, GO};
-use dt_hub_calls::{fired, with_scripts};
+use dt_hub_calls::{HubCalls, with_scripts};
 use std::alloc::Global;
 use std::process::Abort;
 use std::sync::Wait;
@@ -33,18 +33,18 @@ const ENDED: &str =
     "{\"aggdrops\":[0,0],\"cause\":\"history\",\"dyndrops\":[0,0],\"errors\":[0,0],\"exit\":null,\"ok\":true,\"phase\":\"stopped\",\"seen\":65537,\"specdrops\":[0,0],\"specfails\":0}\n";
 
 /// Two processors take turns, until their scripts have ended.
-fn fires_all<J: HubSite, R: Wait>(
+fn fires_all<H: HubCalls, R: Wait>(
     rt: &R,
-    hub: &Hub<J>,
-    one: &mut CpuSeat<J>,
-    other: &mut CpuSeat<J>,
+    hub: &H,
+    one: &mut H::Token,
+    other: &mut H::Token,
 ) -> u64 {
     let mut count = 0u64;
     for _ in 0..FIRINGS {
-        if let Fired::At(_) = fired(rt, hub, one, &NoGate) {
+        if let Fired::At(_) = hub.fire(rt, one, &NoGate) {
             count = count.wrapping_add(1);
         }
-        if let Fired::At(_) = fired(rt, hub, other, &NoGate) {
+        if let Fired::At(_) = hub.fire(rt, other, &NoGate) {
             count = count.wrapping_add(1);
         }
     }
@@ -55,12 +55,12 @@ fn fires_all<J: HubSite, R: Wait>(
 struct LongHistory;
 
 impl Play for LongHistory {
-    fn play<J: HubSite, R: Wait + Abort>(
+    fn play<H: HubCalls, R: Wait + Abort>(
         &self,
         rt: &R,
         alloc: Global,
-        hub: &Hub<J>,
-        tokens: Vec<CpuSeat<J>>,
+        hub: &H,
+        tokens: Vec<H::Token>,
     ) -> Result<(), Fail> {
         let (mut one, mut other) = both(rt, tokens)?;
         let mut session = opened(rt, alloc, hub, "root");

@@ -1,9 +1,9 @@
 //! A session and a processor that meet.
 use crate::calls::{Play, both, opened, run, says};
 use crate::paths::{ONE_RECORD, SNAP, tracing};
-use dt_hub::{CpuSeat, Fired, Hub, HubSite, NoGate, Offered, Session};
+use dt_hub::{Fired, NoGate, Offered};
 use dt_hub_calls::texts::{DONE, ENABLE, ENABLED, GO, STOP};
-use dt_hub_calls::{LifeHeard, Sight, fired, meet_heard};
+use dt_hub_calls::{HubCalls, LifeHeard, SessionCalls, Sight, TokenCalls, meet_heard};
 use std::alloc::{AllocError, Global};
 use std::process::Abort;
 use std::sync::Wait;
@@ -42,16 +42,16 @@ pub(crate) const GOES: Sight = Sight {
 
 /// A processor, and what it was answered of the life of a session.
 #[derive(Drop)]
-pub(crate) struct Firing<J: HubSite> {
-    pub(crate) token: CpuSeat<J>,
+pub(crate) struct Firing<T: TokenCalls> {
+    pub(crate) token: T,
     heard: LifeHeard,
     /// Whether the session has enabled the other probe.
     pub(crate) wants_writes: bool,
 }
 
-impl<J: HubSite> Firing<J> {
+impl<T: TokenCalls> Firing<T> {
     /// A processor that fired nothing.
-    pub(crate) fn new(alloc: Global, token: CpuSeat<J>, session: &Session<J>) -> Firing<J> {
+    pub(crate) fn new<S: SessionCalls>(alloc: Global, token: T, session: &S) -> Firing<T> {
         let heard = LifeHeard::new(alloc, session);
         Firing {
             token,
@@ -61,10 +61,10 @@ impl<J: HubSite> Firing<J> {
     }
 
     /// Its firing, which was offered to the session before on the seat of this one, found that life gone: nothing of it came to this session.
-    pub(crate) fn found_gone(
+    pub(crate) fn found_gone<S: SessionCalls>(
         &mut self,
         alloc: Global,
-        session: &Session<J>,
+        session: &S,
     ) -> Result<(), AllocError> {
         self.heard.fired(&self.token, true)?;
         self.heard = self.heard.next(alloc, session)?;
@@ -73,12 +73,12 @@ impl<J: HubSite> Firing<J> {
 }
 
 /// A processor fires: what comes of it at the life of a session.
-pub(crate) fn comes<J: HubSite, R: Wait + Abort>(
+pub(crate) fn comes<H: HubCalls, R: Wait + Abort>(
     rt: &R,
-    hub: &Hub<J>,
-    firing: &mut Firing<J>,
+    hub: &H,
+    firing: &mut Firing<H::Token>,
 ) -> Result<Offered, AllocError> {
-    let Fired::At(place) = fired(rt, hub, &mut firing.token, &NoGate) else {
+    let Fired::At(place) = hub.fire(rt, &mut firing.token, &NoGate) else {
         assert!(rt; false, "no firing");
         return Ok(Offered::Gone);
     };
@@ -87,10 +87,10 @@ pub(crate) fn comes<J: HubSite, R: Wait + Abort>(
 }
 
 /// A processor fires, and this comes of it.
-pub(crate) fn comes_to<J: HubSite, R: Wait + Abort>(
+pub(crate) fn comes_to<H: HubCalls, R: Wait + Abort>(
     rt: &R,
-    hub: &Hub<J>,
-    firing: &mut Firing<J>,
+    hub: &H,
+    firing: &mut Firing<H::Token>,
     came: Offered,
 ) -> Result<(), AllocError> {
     assert_eq!(rt; comes(rt, hub, firing)?, came);
@@ -98,12 +98,12 @@ pub(crate) fn comes_to<J: HubSite, R: Wait + Abort>(
 }
 
 /// A session and a processor meet. The session then knows so many items, which are all, and the processor's firings stand with these in one row.
-pub(crate) fn meet<J: HubSite, R: Wait + Abort>(
+pub(crate) fn meet<H: HubCalls, R: Wait + Abort>(
     rt: &R,
     alloc: Global,
-    hub: &Hub<J>,
-    session: &mut Session<J>,
-    firing: &mut Firing<J>,
+    hub: &H,
+    session: &mut H::Session,
+    firing: &mut Firing<H::Token>,
     sight: Sight,
 ) -> Result<u64, AllocError> {
     let Firing { token, heard, .. } = firing;
@@ -120,13 +120,13 @@ enum Which {
 
 /// The two processors, and what each was answered.
 #[derive(Drop)]
-struct Processors<J: HubSite> {
-    one: Firing<J>,
-    other: Firing<J>,
+struct Processors<T: TokenCalls> {
+    one: Firing<T>,
+    other: Firing<T>,
 }
 
-impl<J: HubSite> Processors<J> {
-    fn at(&mut self, which: Which) -> &mut Firing<J> {
+impl<T: TokenCalls> Processors<T> {
+    fn at(&mut self, which: Which) -> &mut Firing<T> {
         match which {
             Which::One => &mut self.one,
             Which::Other => &mut self.other,
@@ -387,26 +387,31 @@ const LIVES_NEXT: [Act; 7] = [
 ];
 
 /// A processor is told what a session knows, which are so many items.
-fn tells<J: HubSite>(hub: &Hub<J>, session: &mut Session<J>, firing: &mut Firing<J>, count: u64) {
+fn tells<H: HubCalls>(
+    hub: &H,
+    session: &mut H::Session,
+    firing: &mut Firing<H::Token>,
+    count: u64,
+) {
     let receipt = hub.receipt(session);
     hub.tell(&mut firing.token, receipt);
     firing.heard.learns(count);
 }
 
 /// A session and its processors do this, and what comes of it is as it says.
-fn does<J: HubSite, R: Wait + Abort>(
+fn does<H: HubCalls, R: Wait + Abort>(
     rt: &R,
     alloc: Global,
-    hub: &Hub<J>,
-    session: &mut Session<J>,
-    processors: &mut Processors<J>,
+    hub: &H,
+    session: &mut H::Session,
+    processors: &mut Processors<H::Token>,
     act: Act,
 ) -> Result<(), AllocError> {
     match act {
         Act::Asks { line, reply } => says(rt, alloc, hub, session, line, reply),
         Act::Fires { which, came } => comes_to(rt, hub, processors.at(which), came)?,
         Act::Ends { which } => {
-            let end = fired(rt, hub, &mut processors.at(which).token, &NoGate);
+            let end = hub.fire(rt, &mut processors.at(which).token, &NoGate);
             assert_eq!(rt; end, Fired::End);
         }
         Act::Tells { which, items } => tells(hub, session, processors.at(which), items),
@@ -423,12 +428,12 @@ fn does<J: HubSite, R: Wait + Abort>(
 }
 
 /// The same, of one act after the other.
-fn plays<J: HubSite, R: Wait + Abort>(
+fn plays<H: HubCalls, R: Wait + Abort>(
     rt: &R,
     alloc: Global,
-    hub: &Hub<J>,
-    session: &mut Session<J>,
-    processors: &mut Processors<J>,
+    hub: &H,
+    session: &mut H::Session,
+    processors: &mut Processors<H::Token>,
     acts: &[Act],
 ) -> Result<(), AllocError> {
     for act in acts {
@@ -444,12 +449,12 @@ struct Course {
 }
 
 impl Play for Course {
-    fn play<J: HubSite, R: Wait + Abort>(
+    fn play<H: HubCalls, R: Wait + Abort>(
         &self,
         rt: &R,
         alloc: Global,
-        hub: &Hub<J>,
-        tokens: Vec<CpuSeat<J>>,
+        hub: &H,
+        tokens: Vec<H::Token>,
     ) -> Result<(), Fail> {
         let (one, other) = both(rt, tokens)?;
         let mut session = opened(rt, alloc, hub, "root");
@@ -484,11 +489,11 @@ fn a_session_is_met_whose_history_is_full(rt: HostRuntime) -> Result<(), Fail> {
 }
 
 /// The processors' next life of the seat is that of another session.
-fn follow<J: HubSite, R: Abort>(
+fn follow<S: SessionCalls, T: TokenCalls, R: Abort>(
     rt: &R,
     alloc: Global,
-    session: &Session<J>,
-    processors: &mut Processors<J>,
+    session: &S,
+    processors: &mut Processors<T>,
 ) -> Result<(), AllocError> {
     assert_eq!(rt; (session.seat().number(), session.life()), (0, 1));
     processors.one.heard = processors.one.heard.next(alloc, session)?;
@@ -500,12 +505,12 @@ fn follow<J: HubSite, R: Abort>(
 struct Followed;
 
 impl Play for Followed {
-    fn play<J: HubSite, R: Wait + Abort>(
+    fn play<H: HubCalls, R: Wait + Abort>(
         &self,
         rt: &R,
         alloc: Global,
-        hub: &Hub<J>,
-        tokens: Vec<CpuSeat<J>>,
+        hub: &H,
+        tokens: Vec<H::Token>,
     ) -> Result<(), Fail> {
         let (one, other) = both(rt, tokens)?;
         let mut session = tracing(rt, alloc, hub, "root");

@@ -2,9 +2,9 @@
 use crate::calls::{Play, both, only_at, opened, run, says};
 use crate::met;
 use dt_chain::Seat;
-use dt_hub::{CpuSeat, Fired, Hub, HubSite, Looked, NoGate, Offered, Session};
-use dt_hub_calls::fired;
+use dt_hub::{Fired, Looked, NoGate, Offered};
 use dt_hub_calls::texts::{DONE, ENABLE, ENABLED, GO, MACHINE, STOP};
+use dt_hub_calls::{HubCalls, SessionCalls};
 use std::alloc::Global;
 use std::process::Abort;
 use std::sync::Wait;
@@ -16,12 +16,12 @@ pub(crate) const ONE_RECORD: &str =
     "{\"cpu\":0,\"data\":\"00000001\",\"drops\":0,\"filled\":false,\"ok\":true}\n";
 
 /// A session of an account's that traces.
-pub(crate) fn tracing<J: HubSite, R: Wait + Abort>(
+pub(crate) fn tracing<H: HubCalls, R: Wait + Abort>(
     rt: &R,
     alloc: Global,
-    hub: &Hub<J>,
+    hub: &H,
     name: &str,
-) -> Session<J> {
+) -> H::Session {
     let mut session = opened(rt, alloc, hub, name);
     says(rt, alloc, hub, &mut session, ENABLE, ENABLED);
     says(rt, alloc, hub, &mut session, GO, DONE);
@@ -29,12 +29,8 @@ pub(crate) fn tracing<J: HubSite, R: Wait + Abort>(
 }
 
 /// A processor's first firing is kept on the first seat, and named no other.
-pub(crate) fn keeps_first<J: HubSite, R: Wait + Abort>(
-    rt: &R,
-    hub: &Hub<J>,
-    token: &mut CpuSeat<J>,
-) {
-    assert_eq!(rt; fired(rt, hub, token, &NoGate), Fired::At(0));
+pub(crate) fn keeps_first<H: HubCalls, R: Wait + Abort>(rt: &R, hub: &H, token: &mut H::Token) {
+    assert_eq!(rt; hub.fire(rt, token, &NoGate), Fired::At(0));
     only_at(rt, token, 0, Offered::Kept);
 }
 
@@ -42,19 +38,19 @@ pub(crate) fn keeps_first<J: HubSite, R: Wait + Abort>(
 struct FirstPath;
 
 impl Play for FirstPath {
-    fn play<J: HubSite, R: Wait + Abort>(
+    fn play<H: HubCalls, R: Wait + Abort>(
         &self,
         rt: &R,
         alloc: Global,
-        hub: &Hub<J>,
-        tokens: Vec<CpuSeat<J>>,
+        hub: &H,
+        tokens: Vec<H::Token>,
     ) -> Result<(), Fail> {
         let (mut one, _other) = both(rt, tokens)?;
         let mut session = tracing(rt, alloc, hub, "root");
         keeps_first(rt, hub, &mut one);
         assert_eq!(rt; hub.seen(&mut session), 3);
         says(rt, alloc, hub, &mut session, SNAP, ONE_RECORD);
-        assert_eq!(rt; fired(rt, hub, &mut one, &NoGate), Fired::End);
+        assert_eq!(rt; hub.fire(rt, &mut one, &NoGate), Fired::End);
         hub.close(rt, session);
         Ok(())
     }
@@ -66,10 +62,10 @@ fn a_firing_is_kept(rt: HostRuntime) -> Result<(), Fail> {
 }
 
 /// The next firing of a processor would be offered to this life of a seat, and to nobody else.
-pub(crate) fn looks<J: HubSite, R: Abort>(
+pub(crate) fn looks<H: HubCalls, R: Abort>(
     rt: &R,
-    hub: &Hub<J>,
-    token: &mut CpuSeat<J>,
+    hub: &H,
+    token: &mut H::Token,
     named: u32,
     life: u64,
 ) {
@@ -92,12 +88,12 @@ pub(crate) fn looks<J: HubSite, R: Abort>(
 struct LooksFirst;
 
 impl Play for LooksFirst {
-    fn play<J: HubSite, R: Wait + Abort>(
+    fn play<H: HubCalls, R: Wait + Abort>(
         &self,
         rt: &R,
         alloc: Global,
-        hub: &Hub<J>,
-        tokens: Vec<CpuSeat<J>>,
+        hub: &H,
+        tokens: Vec<H::Token>,
     ) -> Result<(), Fail> {
         let (mut one, _other) = both(rt, tokens)?;
         let session = tracing(rt, alloc, hub, "root");
@@ -116,7 +112,7 @@ fn looks_take_nothing(rt: HostRuntime) -> Result<(), Fail> {
 }
 
 /// A look names nobody on the first seat.
-pub(crate) fn names_nobody<J: HubSite, R: Abort>(rt: &R, hub: &Hub<J>, token: &mut CpuSeat<J>) {
+pub(crate) fn names_nobody<H: HubCalls, R: Abort>(rt: &R, hub: &H, token: &mut H::Token) {
     match (hub.look(token), Seat::new(0)) {
         (Looked::At { mask, .. }, Some(seat)) => assert_eq!(rt; mask.life_of(seat), None),
         _ => assert!(rt; false, "no look"),
@@ -127,12 +123,12 @@ pub(crate) fn names_nobody<J: HubSite, R: Abort>(rt: &R, hub: &Hub<J>, token: &m
 struct Withdrawn;
 
 impl Play for Withdrawn {
-    fn play<J: HubSite, R: Wait + Abort>(
+    fn play<H: HubCalls, R: Wait + Abort>(
         &self,
         rt: &R,
         alloc: Global,
-        hub: &Hub<J>,
-        tokens: Vec<CpuSeat<J>>,
+        hub: &H,
+        tokens: Vec<H::Token>,
     ) -> Result<(), Fail> {
         let (mut one, _other) = both(rt, tokens)?;
         let mut session = tracing(rt, alloc, hub, "root");
@@ -157,22 +153,22 @@ fn a_publication_goes_with_its_tracing(rt: HostRuntime) -> Result<(), Fail> {
 struct ClosedBetween;
 
 impl Play for ClosedBetween {
-    fn play<J: HubSite, R: Wait + Abort>(
+    fn play<H: HubCalls, R: Wait + Abort>(
         &self,
         rt: &R,
         alloc: Global,
-        hub: &Hub<J>,
-        tokens: Vec<CpuSeat<J>>,
+        hub: &H,
+        tokens: Vec<H::Token>,
     ) -> Result<(), Fail> {
         let (mut one, _other) = both(rt, tokens)?;
         let session = tracing(rt, alloc, hub, "root");
         keeps_first(rt, hub, &mut one);
         // nobody asks a line between the close and the firing
         hub.close(rt, session);
-        assert_eq!(rt; fired(rt, hub, &mut one, &NoGate), Fired::At(1));
+        assert_eq!(rt; hub.fire(rt, &mut one, &NoGate), Fired::At(1));
         only_at(rt, &one, 0, Offered::NotNamed);
         let session = tracing(rt, alloc, hub, "root");
-        assert_eq!(rt; fired(rt, hub, &mut one, &NoGate), Fired::At(2));
+        assert_eq!(rt; hub.fire(rt, &mut one, &NoGate), Fired::At(2));
         only_at(rt, &one, 0, Offered::Kept);
         hub.close(rt, session);
         Ok(())
@@ -185,7 +181,7 @@ fn a_firing_names_what_is_published_by_then(rt: HostRuntime) -> Result<(), Fail>
 }
 
 /// A session on the second seat that traces what the first one does.
-fn traces_too<J: HubSite, R: Wait + Abort>(rt: &R, alloc: Global, hub: &Hub<J>) -> Session<J> {
+fn traces_too<H: HubCalls, R: Wait + Abort>(rt: &R, alloc: Global, hub: &H) -> H::Session {
     let session = tracing(rt, alloc, hub, "root");
     assert_eq!(rt; session.seat().number(), 1);
     session
@@ -195,12 +191,12 @@ fn traces_too<J: HubSite, R: Wait + Abort>(rt: &R, alloc: Global, hub: &Hub<J>) 
 struct OthersStay;
 
 impl Play for OthersStay {
-    fn play<J: HubSite, R: Wait + Abort>(
+    fn play<H: HubCalls, R: Wait + Abort>(
         &self,
         rt: &R,
         alloc: Global,
-        hub: &Hub<J>,
-        tokens: Vec<CpuSeat<J>>,
+        hub: &H,
+        tokens: Vec<H::Token>,
     ) -> Result<(), Fail> {
         let (mut one, _other) = both(rt, tokens)?;
         let session = tracing(rt, alloc, hub, "root");

@@ -4,28 +4,28 @@ use crate::endings::CLOSE;
 use crate::met;
 use crate::met::{Firing, MANY, comes, comes_to, meet};
 use crate::paths::looks;
-use dt_hub::{CpuSeat, Hub, HubSite, LineAnswer, Offered, Session};
+use dt_hub::{LineAnswer, Offered};
 use dt_hub_calls::texts::{DONE, ENABLE, ENABLE_WRITES, ENABLED, GO, MACHINE, STOP};
-use dt_hub_calls::{Sight, answered};
+use dt_hub_calls::{HubCalls, Sight};
 use std::alloc::{AllocError, Global};
 use std::process::Abort;
 use std::sync::Wait;
 use std::test::Fail;
 
 /// A session that has enabled a probe and doesn't trace yet.
-fn enabled<J: HubSite, R: Wait + Abort>(rt: &R, alloc: Global, hub: &Hub<J>) -> Session<J> {
+fn enabled<H: HubCalls, R: Wait + Abort>(rt: &R, alloc: Global, hub: &H) -> H::Session {
     let mut session = opened(rt, alloc, hub, "root");
     says(rt, alloc, hub, &mut session, ENABLE, ENABLED);
     session
 }
 
 /// The session on the second seat traces, and it alone is named.
-fn traces_alone<J: HubSite, R: Wait + Abort>(
+fn traces_alone<H: HubCalls, R: Wait + Abort>(
     rt: &R,
     alloc: Global,
-    hub: &Hub<J>,
-    second: &mut Session<J>,
-    token: &mut CpuSeat<J>,
+    hub: &H,
+    second: &mut H::Session,
+    token: &mut H::Token,
 ) {
     says(rt, alloc, hub, second, GO, DONE);
     looks(rt, hub, token, 1, 0);
@@ -50,30 +50,30 @@ struct AfterGo {
 }
 
 impl Play for AfterGo {
-    fn play<J: HubSite, R: Wait + Abort>(
+    fn play<H: HubCalls, R: Wait + Abort>(
         &self,
         rt: &R,
         alloc: Global,
-        hub: &Hub<J>,
-        tokens: Vec<CpuSeat<J>>,
+        hub: &H,
+        tokens: Vec<H::Token>,
     ) -> Result<(), Fail> {
         let (mut one, _other) = both(rt, tokens)?;
         let mut first = enabled(rt, alloc, hub);
         let mut second = enabled(rt, alloc, hub);
-        drop(answered(rt, alloc, hub, &mut first, GO));
+        drop(hub.ask(rt, alloc, &mut first, GO));
         match self.then {
             Then::Closes => {
                 hub.close(rt, first);
                 traces_alone(rt, alloc, hub, &mut second, &mut one);
             }
             Then::AsksClose => {
-                drop(answered(rt, alloc, hub, &mut first, CLOSE));
+                drop(hub.ask(rt, alloc, &mut first, CLOSE));
                 traces_alone(rt, alloc, hub, &mut second, &mut one);
                 hub.close(rt, first);
             }
             Then::GoesAgain => {
-                drop(answered(rt, alloc, hub, &mut first, GO));
-                drop(answered(rt, alloc, hub, &mut first, STOP));
+                drop(hub.ask(rt, alloc, &mut first, GO));
+                drop(hub.ask(rt, alloc, &mut first, STOP));
                 traces_alone(rt, alloc, hub, &mut second, &mut one);
                 hub.close(rt, first);
             }
@@ -84,10 +84,10 @@ impl Play for AfterGo {
 }
 
 /// A processor fires what a session wants that has asked its `go` once: it is kept, or isn't seen yet, or named, where that `go` was refused for memory.
-fn comes_early<J: HubSite, R: Wait + Abort>(
+fn comes_early<H: HubCalls, R: Wait + Abort>(
     rt: &R,
-    hub: &Hub<J>,
-    one: &mut Firing<J>,
+    hub: &H,
+    one: &mut Firing<H::Token>,
     refused: bool,
 ) -> Result<(), AllocError> {
     let came = comes(rt, hub, one)?;
@@ -104,24 +104,24 @@ fn comes_early<J: HubSite, R: Wait + Abort>(
 
 /// A session asks its `go`, enables another probe and asks it again, as a processor fires. Where the first `go` was refused for memory, its publication, which has one
 /// probe, may come with the next write, and the second `go` publishes both.
-fn goes_twice<J: HubSite, R: Wait + Abort>(
+fn goes_twice<H: HubCalls, R: Wait + Abort>(
     rt: &R,
     alloc: Global,
-    hub: &Hub<J>,
-    first: &mut Session<J>,
-    second: &mut Session<J>,
-    one: &mut Firing<J>,
+    hub: &H,
+    first: &mut H::Session,
+    second: &mut H::Session,
+    one: &mut Firing<H::Token>,
 ) -> Result<(), AllocError> {
-    let refused = matches!(answered(rt, alloc, hub, first, GO), LineAnswer::Memory);
+    let refused = matches!(hub.ask(rt, alloc, first, GO), LineAnswer::Memory);
     one.wants_writes = refused;
     let (go, stop) = if refused { (2, 3) } else { (1, 4) };
-    drop(answered(rt, alloc, hub, first, ENABLE_WRITES));
+    drop(hub.ask(rt, alloc, first, ENABLE_WRITES));
     says(rt, alloc, hub, second, GO, DONE);
     comes_early(rt, hub, one, refused)?;
     comes_early(rt, hub, one, refused)?;
     comes_early(rt, hub, one, refused)?;
     comes_to(rt, hub, one, Offered::NotNamed)?;
-    drop(answered(rt, alloc, hub, first, GO));
+    drop(hub.ask(rt, alloc, first, GO));
     comes_to(rt, hub, one, Offered::Kept)?;
     let write = if refused {
         Offered::Kept
@@ -145,12 +145,12 @@ fn goes_twice<J: HubSite, R: Wait + Abort>(
 struct GoesTwice;
 
 impl Play for GoesTwice {
-    fn play<J: HubSite, R: Wait + Abort>(
+    fn play<H: HubCalls, R: Wait + Abort>(
         &self,
         rt: &R,
         alloc: Global,
-        hub: &Hub<J>,
-        tokens: Vec<CpuSeat<J>>,
+        hub: &H,
+        tokens: Vec<H::Token>,
     ) -> Result<(), Fail> {
         let (one, _other) = both(rt, tokens)?;
         let mut first = enabled(rt, alloc, hub);

@@ -2,17 +2,17 @@
 use crate::calls::{Play, both, run};
 use crate::paths::tracing;
 use dt_chain::SEATS;
-use dt_hub::{CpuSeat, Fired, Hub, HubSite, NoGate, Offered, OpenFault};
+use dt_hub::{Fired, NoGate, Offered, OpenFault};
 use dt_hub_calls::texts::MACHINE;
-use dt_hub_calls::{at_seat, fired};
+use dt_hub_calls::{HubCalls, SessionCalls, at_seat};
 use std::alloc::Global;
 use std::process::Abort;
 use std::sync::Wait;
 use std::test::Fail;
 
 /// No further session is had.
-fn has_no_seat<J: HubSite, R: Wait + Abort>(rt: &R, alloc: Global, hub: &Hub<J>) {
-    match hub.open(rt, alloc, b"root") {
+fn has_no_seat<H: HubCalls, R: Wait + Abort>(rt: &R, alloc: Global, hub: &H) {
+    match hub.open(rt, alloc, "root") {
         Ok(session) => {
             hub.close(rt, session);
             assert!(rt; false, "a session too many");
@@ -22,19 +22,19 @@ fn has_no_seat<J: HubSite, R: Wait + Abort>(rt: &R, alloc: Global, hub: &Hub<J>)
 }
 
 /// A processor's only firing is kept at each seat.
-fn keeps_at_all<J: HubSite, R: Wait + Abort>(rt: &R, hub: &Hub<J>, token: &mut CpuSeat<J>) {
-    assert_eq!(rt; fired(rt, hub, token, &NoGate), Fired::At(0));
+fn keeps_at_all<H: HubCalls, R: Wait + Abort>(rt: &R, hub: &H, token: &mut H::Token) {
+    assert_eq!(rt; hub.fire(rt, token, &NoGate), Fired::At(0));
     for number in 0..SEATS as u32 {
         assert_eq!(rt; at_seat(token, number), Offered::Kept);
     }
 }
 
 /// Opens sessions that trace on the seats from this one on, looks that no further one is had and that a firing is kept by all, and closes them.
-fn opens_from<J: HubSite, R: Wait + Abort>(
+fn opens_from<H: HubCalls, R: Wait + Abort>(
     rt: &R,
     alloc: Global,
-    hub: &Hub<J>,
-    token: &mut CpuSeat<J>,
+    hub: &H,
+    token: &mut H::Token,
     seat: u32,
     left: u32,
 ) {
@@ -53,12 +53,12 @@ fn opens_from<J: HubSite, R: Wait + Abort>(
 struct AllSeats;
 
 impl Play for AllSeats {
-    fn play<J: HubSite, R: Wait + Abort>(
+    fn play<H: HubCalls, R: Wait + Abort>(
         &self,
         rt: &R,
         alloc: Global,
-        hub: &Hub<J>,
-        tokens: Vec<CpuSeat<J>>,
+        hub: &H,
+        tokens: Vec<H::Token>,
     ) -> Result<(), Fail> {
         let (mut one, mut other) = both(rt, tokens)?;
         opens_from(rt, alloc, hub, &mut one, 0, SEATS as u32);
@@ -76,16 +76,16 @@ fn there_is_no_seat_for_one_more(rt: HostRuntime) -> Result<(), Fail> {
 struct NoPrivilege;
 
 impl Play for NoPrivilege {
-    fn play<J: HubSite, R: Wait + Abort>(
+    fn play<H: HubCalls, R: Wait + Abort>(
         &self,
         rt: &R,
         alloc: Global,
-        hub: &Hub<J>,
-        tokens: Vec<CpuSeat<J>>,
+        hub: &H,
+        tokens: Vec<H::Token>,
     ) -> Result<(), Fail> {
         drop(tokens);
         for name in ["joe", "nobody", ""] {
-            match hub.open(rt, alloc, name.as_bytes()) {
+            match hub.open(rt, alloc, name) {
                 Ok(session) => {
                     hub.close(rt, session);
                     assert!(rt; false, "a session without a privilege");

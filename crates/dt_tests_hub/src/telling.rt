@@ -1,8 +1,8 @@
 //! A processor that is told of a session.
 use crate::calls::{Play, both, opened, run, says};
 use crate::paths::{ONE_RECORD, SNAP, keeps_first};
-use dt_hub::{CpuSeat, Fired, Hub, HubSite, NoGate};
-use dt_hub_calls::fired;
+use dt_hub::{Fired, NoGate};
+use dt_hub_calls::HubCalls;
 use dt_hub_calls::texts::{DONE, ENABLE, ENABLED, GO, MACHINE};
 use std::alloc::Global;
 use std::process::Abort;
@@ -13,12 +13,12 @@ use std::test::Fail;
 struct Told;
 
 impl Play for Told {
-    fn play<J: HubSite, R: Wait + Abort>(
+    fn play<H: HubCalls, R: Wait + Abort>(
         &self,
         rt: &R,
         alloc: Global,
-        hub: &Hub<J>,
-        tokens: Vec<CpuSeat<J>>,
+        hub: &H,
+        tokens: Vec<H::Token>,
     ) -> Result<(), Fail> {
         let (mut one, _other) = both(rt, tokens)?;
         let mut session = opened(rt, alloc, hub, "root");
@@ -33,7 +33,7 @@ impl Play for Told {
         says(rt, alloc, hub, &mut session, SNAP, ONE_RECORD);
         let late = hub.receipt(&mut session);
         hub.tell(&mut one, late);
-        assert_eq!(rt; fired(rt, hub, &mut one, &NoGate), Fired::End);
+        assert_eq!(rt; hub.fire(rt, &mut one, &NoGate), Fired::End);
         hub.close(rt, session);
         Ok(())
     }
