@@ -105,21 +105,31 @@ fn staged<J: HubSite + Send + Sync, R: Threads + Wait + Clock + Sync>(
     let Ok((hub, tokens)) = Hub::<J>::new(rt, alloc, parts) else {
         return None;
     };
-    let mut tokens = tokens;
-    let text = match work {
-        Work::Play { steps } => played(rt, alloc, &hub, &mut tokens, steps),
-        Work::Measure(scene) => {
-            let left = scene.interested.saturating_add(scene.others);
-            let measured = opens(rt, alloc, &hub, &mut tokens, scene, left);
-            told(alloc, &measured)
-        }
-        Work::Ask { sessions } => match ask_in_turn(rt, alloc, &hub, *sessions) {
-            Some(replied) => told(alloc, &replied),
-            None => None,
-        },
-    };
+    let text = done(rt, alloc, &hub, tokens, work);
     hub.end(rt);
     text
+}
+
+/// Does the work on a hub that threads may share, with tokens that may go to them: what is to be written.
+fn done<H: HubCalls + Sync, R: Threads + Wait + Clock + Sync>(
+    rt: &R,
+    alloc: Global,
+    hub: &H,
+    tokens: Vec<H::Token>,
+    work: &Work,
+) -> Option<Vec<u8>>
+where
+    H::Token: Send,
+{
+    let mut tokens = tokens;
+    match work {
+        Work::Play { steps } => played(rt, alloc, hub, &mut tokens, steps),
+        Work::Measure(scene) => {
+            let left = scene.interested.saturating_add(scene.others);
+            told(alloc, &opens(rt, alloc, hub, &mut tokens, scene, left))
+        }
+        Work::Ask { sessions } => told(alloc, &ask_in_turn(rt, alloc, hub, *sessions)?),
+    }
 }
 
 /// The line that tells what was measured.

@@ -1,8 +1,8 @@
 //! Sessions that trace, and processors that fire.
 use crate::STATUS;
 use crossbeam_utils::CachePadded;
-use dt_hub::{CpuSeat, Fired, Hub, HubSite, LineAnswer, NoGate};
-use dt_hub_calls::HubCalls;
+use dt_hub::{Fired, LineAnswer, NoGate};
+use dt_hub_calls::{HubCalls, answered};
 use std::alloc::Global;
 use std::fmt;
 use std::rt::Clock;
@@ -121,12 +121,15 @@ fn nanoseconds_since<R: Clock>(rt: &R, begun: Instant) -> Option<u64> {
 }
 
 /// Two processors fire their whole scripts at the same time, each on a thread of its own.
-fn fire_together<J: HubSite + Send + Sync, R: Threads + Wait + Clock + Sync>(
+fn fire_together<H: HubCalls + Sync, R: Threads + Wait + Clock + Sync>(
     rt: &R,
-    hub: &Hub<J>,
-    one: &mut CpuSeat<J>,
-    other: &mut CpuSeat<J>,
-) -> Measured {
+    hub: &H,
+    one: &mut H::Token,
+    other: &mut H::Token,
+) -> Measured
+where
+    H::Token: Send,
+{
     let (first, second) = join(
         rt,
         || fires(rt, hub, one, u64::MAX),
@@ -136,12 +139,15 @@ fn fire_together<J: HubSite + Send + Sync, R: Threads + Wait + Clock + Sync>(
 }
 
 /// Two processors fire their scripts: the whole ones at the same time or one after the other, and so many places of them one after the other.
-fn both_fire<J: HubSite + Send + Sync, R: Threads + Wait + Clock + Sync>(
+fn both_fire<H: HubCalls + Sync, R: Threads + Wait + Clock + Sync>(
     rt: &R,
-    hub: &Hub<J>,
-    tokens: &mut Vec<CpuSeat<J>>,
+    hub: &H,
+    tokens: &mut Vec<H::Token>,
     scene: &Scene,
-) -> Measured {
+) -> Measured
+where
+    H::Token: Send,
+{
     let Some(one) = tokens.pop() else {
         return Measured::none();
     };
@@ -166,7 +172,7 @@ fn says<H: HubCalls, R: Wait>(
     session: &mut H::Session,
     line: &str,
 ) {
-    let _answer = hub.ask(rt, alloc, session, line);
+    let _answer = answered(rt, alloc, hub, session, line);
 }
 
 /// A session traces: the probe that fires, or another.
@@ -191,18 +197,21 @@ fn traces<H: HubCalls, R: Wait>(
 }
 
 /// Opens a session that traces, and so on until none is left to open, the others last; then the processors fire. The last closes first.
-pub(crate) fn opens<J: HubSite + Send + Sync, R: Threads + Wait + Clock + Sync>(
+pub(crate) fn opens<H: HubCalls + Sync, R: Threads + Wait + Clock + Sync>(
     rt: &R,
     alloc: Global,
-    hub: &Hub<J>,
-    tokens: &mut Vec<CpuSeat<J>>,
+    hub: &H,
+    tokens: &mut Vec<H::Token>,
     scene: &Scene,
     left: u64,
-) -> Measured {
+) -> Measured
+where
+    H::Token: Send,
+{
     if left == 0 {
         return both_fire(rt, hub, tokens, scene);
     }
-    let Ok(mut session) = hub.open(rt, alloc, b"root") else {
+    let Ok(mut session) = hub.open(rt, alloc, "root") else {
         return Measured::none();
     };
     traces(rt, alloc, hub, &mut session, left > scene.others);
@@ -231,7 +240,7 @@ impl fmt::Display for Replied {
 fn asks<H: HubCalls, R: Wait>(rt: &R, alloc: Global, hub: &H, session: &mut H::Session) -> u64 {
     let mut replies: u64 = 0;
     for _ in 0..LINES {
-        if let LineAnswer::Reply(_) = hub.ask(rt, alloc, session, STATUS) {
+        if let LineAnswer::Reply(_) = answered(rt, alloc, hub, session, STATUS) {
             replies = replies.saturating_add(1);
         }
     }

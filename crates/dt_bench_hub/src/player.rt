@@ -2,6 +2,7 @@
 use crate::STATUS;
 use dt_hub::{Gate, LineAnswer, Moment, NoGate};
 use dt_hub_calls::{HubCalls, TokenCalls};
+use dt_proto::Asked;
 use std::alloc::Global;
 use std::mem;
 use std::sync::{Mutex, MutexGuard, Wait};
@@ -76,8 +77,9 @@ fn called<H: HubCalls, R: Wait>(
     number: &str,
     line: &str,
 ) -> Option<Vec<u8>> {
+    let asked = Asked::Line(line.as_bytes().to_vec(alloc).ok()?);
     let answer = match session {
-        Some(session) => hub.ask(rt, alloc, session, line),
+        Some(session) => hub.ask(rt, alloc, session, &asked),
         None => return None,
     };
     let mut text = number.as_bytes().to_vec(alloc).ok()?;
@@ -135,7 +137,8 @@ fn traces<H: HubCalls, R: Wait>(
     hub: &H,
     session: &mut H::Session,
 ) -> Option<bool> {
-    let answer = hub.ask(rt, alloc, session, STATUS);
+    let asked = Asked::Line(STATUS.as_bytes().to_vec(alloc).ok()?);
+    let answer = hub.ask(rt, alloc, session, &asked);
     let text = str::from_utf8(answer.text()).ok()?;
     Some(text.contains(r#""phase":"active""#))
 }

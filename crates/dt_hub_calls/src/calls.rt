@@ -62,7 +62,7 @@ pub trait HubCalls {
         rt: &R,
         alloc: Global,
         session: &mut Self::Session,
-        line: &str,
+        asked: &Asked,
     ) -> LineAnswer;
 
     /// A session catches up with its trail: how many items it knows then.
@@ -143,12 +143,9 @@ impl<J: HubSite> HubCalls for Hub<J> {
         rt: &R,
         alloc: Global,
         session: &mut Session<J>,
-        line: &str,
+        asked: &Asked,
     ) -> LineAnswer {
-        match line.as_bytes().to_vec(alloc) {
-            Ok(bytes) => Hub::ask(self, rt, alloc, session, &Asked::Line(bytes)),
-            Err(_) => LineAnswer::Memory,
-        }
+        Hub::ask(self, rt, alloc, session, asked)
     }
 
     fn seen(&self, session: &mut Session<J>) -> u64 {
@@ -177,6 +174,20 @@ impl<J: HubSite> HubCalls for Hub<J> {
 
     fn meet<R: Wait>(&self, rt: &R, session: &mut Session<J>, token: &mut CpuSeat<J>) {
         Hub::meet(self, rt, session, token)
+    }
+}
+
+/// What a session is answered to a line of text. Where there is no memory for a copy of it, that is told.
+pub fn answered<H: HubCalls, R: Wait>(
+    rt: &R,
+    alloc: Global,
+    hub: &H,
+    session: &mut H::Session,
+    line: &str,
+) -> LineAnswer {
+    match line.as_bytes().to_vec(alloc) {
+        Ok(bytes) => hub.ask(rt, alloc, session, &Asked::Line(bytes)),
+        Err(_) => LineAnswer::Memory,
     }
 }
 

@@ -1,6 +1,6 @@
 //! What a test takes for granted on a hub.
 use dt_hub_calls::texts::{DONE, ENABLE, ENABLED, GO};
-use dt_hub_calls::{HubCalls, two_of};
+use dt_hub_calls::{HubCalls, answered, two_of};
 use std::alloc::Global;
 use std::process::Abort;
 use std::sync::Wait;
@@ -31,7 +31,7 @@ pub(crate) fn says<H: HubCalls, R: Wait + Abort>(
     line: &str,
     reply: &str,
 ) {
-    let answer = hub.ask(rt, alloc, session, line);
+    let answer = answered(rt, alloc, hub, session, line);
     assert!(rt; answer.text() == reply.as_bytes(), "another reply");
 }
 

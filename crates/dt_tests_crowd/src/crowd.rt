@@ -3,8 +3,8 @@ use crate::calls::opened;
 use crate::scenes::{Scene, run};
 use crate::stays::{Firer, Stay, judged};
 use dt_chain::SEATS;
-use dt_hub::{CpuSeat, Fired, Hub, HubSite, NoGate, Offered};
-use dt_hub_calls::{HubCalls, TokenCalls, at_seat, with_scripts};
+use dt_hub::{Fired, NoGate, Offered};
+use dt_hub_calls::{HubCalls, TokenCalls, answered, at_seat, with_scripts};
 use dt_machine::Machine;
 use std::alloc::{AllocError, Global};
 use std::process::Abort;
@@ -140,7 +140,7 @@ pub(crate) fn asks<H: HubCalls, R: Wait>(
     replies: &mut Vec<Vec<u8>>,
 ) -> Result<(), AllocError> {
     for line in lines {
-        let answer = hub.ask(rt, alloc, session, line);
+        let answer = answered(rt, alloc, hub, session, line);
         replies.push(answer.text().to_vec(alloc)?)?;
     }
     Ok(())
@@ -223,13 +223,16 @@ fn does<H: HubCalls, R: Wait + Abort + Clock>(
 }
 
 /// All works at once, each on a thread of its own. Answers what was counted, and the processors that fired a round.
-fn all_do<J: HubSite + Send + Sync, R: Threads + Wait + Abort + Clock + Sync>(
+fn all_do<H: HubCalls + Sync, R: Threads + Wait + Abort + Clock + Sync>(
     rt: &R,
     alloc: Global,
-    hub: &Hub<J>,
+    hub: &H,
     board: &Board,
-    works: Vec<Work<CpuSeat<J>>>,
-) -> Result<(Tally, Vec<Firer<CpuSeat<J>>>), AllocError> {
+    works: Vec<Work<H::Token>>,
+) -> Result<(Tally, Vec<Firer<H::Token>>), AllocError>
+where
+    H::Token: Send,
+{
     let results = map_vec(rt, works, &move |work| does(rt, alloc, hub, board, work))?;
     let mut all = NOTHING;
     let mut firers = Vec::new(alloc);
@@ -244,13 +247,16 @@ fn all_do<J: HubSite + Send + Sync, R: Threads + Wait + Abort + Clock + Sync>(
 }
 
 /// A round: four processors fire, and four threads have sessions come and go.
-fn round<J: HubSite + Send + Sync, R: Threads + Wait + Abort + Clock + Sync>(
+fn round<H: HubCalls + Sync, R: Threads + Wait + Abort + Clock + Sync>(
     rt: &R,
     alloc: Global,
-    hub: &Hub<J>,
+    hub: &H,
     board: &Board,
-    firers: Vec<Firer<CpuSeat<J>>>,
-) -> Result<(Tally, Vec<Firer<CpuSeat<J>>>), AllocError> {
+    firers: Vec<Firer<H::Token>>,
+) -> Result<(Tally, Vec<Firer<H::Token>>), AllocError>
+where
+    H::Token: Send,
+{
     board.firing.store(4, Ordering::SeqCst);
     let mut works = Vec::new(alloc);
     for firer in firers {
@@ -264,14 +270,17 @@ fn round<J: HubSite + Send + Sync, R: Threads + Wait + Abort + Clock + Sync>(
 }
 
 /// Two rounds, through which two sessions stay, which meet each processor. Answers what was counted.
-fn rounds<J: HubSite + Send + Sync, R: Threads + Wait + Abort + Clock + Sync>(
+fn rounds<H: HubCalls + Sync, R: Threads + Wait + Abort + Clock + Sync>(
     rt: &R,
     alloc: Global,
-    hub: &Hub<J>,
+    hub: &H,
     board: &Board,
-    stay: &mut Stay<Hub<J>>,
-    tokens: Vec<CpuSeat<J>>,
-) -> Result<Tally, AllocError> {
+    stay: &mut Stay<H>,
+    tokens: Vec<H::Token>,
+) -> Result<Tally, AllocError>
+where
+    H::Token: Send,
+{
     let firers = stay.begins(rt, alloc, hub, tokens)?;
     let (early, mut firers) = round(rt, alloc, hub, board, firers)?;
     stay.goes_on(rt, alloc, hub, &mut firers)?;
@@ -286,12 +295,15 @@ fn rounds<J: HubSite + Send + Sync, R: Threads + Wait + Abort + Clock + Sync>(
 }
 
 /// Four processors and four sessions' threads.
-pub(crate) fn plays<J: HubSite + Send + Sync, R: Threads + Wait + Abort + Clock + Sync>(
+pub(crate) fn plays<H: HubCalls + Sync, R: Threads + Wait + Abort + Clock + Sync>(
     rt: &R,
     alloc: Global,
-    hub: &Hub<J>,
-    tokens: Vec<CpuSeat<J>>,
-) -> Result<(), Fail> {
+    hub: &H,
+    tokens: Vec<H::Token>,
+) -> Result<(), Fail>
+where
+    H::Token: Send,
+{
     let text = machine(alloc)?;
     let board = Board::new(Machine::read(alloc, text.as_bytes())?);
     let first = opened(rt, alloc, hub, "root");

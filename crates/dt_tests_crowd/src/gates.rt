@@ -3,7 +3,7 @@ use crate::calls::{both, opened, says, tracing};
 use crate::flag::Flag;
 use crate::scenes::{Scene, run};
 use dt_chain::SEATS;
-use dt_hub::{CpuSeat, Fired, Gate, Hub, HubSite, Looked, Moment, Offered};
+use dt_hub::{Fired, Gate, Looked, Moment, Offered};
 use dt_hub_calls::texts::{DONE, MACHINE, STOP};
 use dt_hub_calls::{HubCalls, SessionCalls, at_seat};
 use std::alloc::Global;
@@ -251,15 +251,18 @@ fn opens<H: HubCalls, R: Wait + Abort + Clock>(rt: &R, alloc: Global, hub: &H, h
 }
 
 /// Processor 0 on a thread of its own, beside that of the session.
-fn beside<J: HubSite + Send + Sync, R: Threads + Wait + Abort + Clock + Sync>(
+fn beside<H: HubCalls + Sync, R: Threads + Wait + Abort + Clock + Sync>(
     rt: &R,
     alloc: Global,
-    hub: &Hub<J>,
-    one: &mut CpuSeat<J>,
-    other: &mut CpuSeat<J>,
+    hub: &H,
+    one: &mut H::Token,
+    other: &mut H::Token,
     hold: &Hold<R>,
     meanwhile: Meanwhile,
-) -> Fired {
+) -> Fired
+where
+    H::Token: Send,
+{
     let (came, _) = join(
         rt,
         || fires(rt, hub, one, hold),
@@ -276,13 +279,16 @@ fn beside<J: HubSite + Send + Sync, R: Threads + Wait + Abort + Clock + Sync>(
 }
 
 /// Processor 0 fires, and is held while this happens.
-pub(crate) fn plays<J: HubSite + Send + Sync, R: Threads + Wait + Abort + Clock + Sync>(
+pub(crate) fn plays<H: HubCalls + Sync, R: Threads + Wait + Abort + Clock + Sync>(
     rt: &R,
     alloc: Global,
-    hub: &Hub<J>,
-    tokens: Vec<CpuSeat<J>>,
+    hub: &H,
+    tokens: Vec<H::Token>,
     meanwhile: Meanwhile,
-) -> Result<(), Fail> {
+) -> Result<(), Fail>
+where
+    H::Token: Send,
+{
     let (mut one, mut other) = both(rt, tokens)?;
     let hold = Hold::new(rt, meanwhile);
     let came = beside(rt, alloc, hub, &mut one, &mut other, &hold, meanwhile);

@@ -2,7 +2,7 @@
 use crate::calls::{both, opened, says, tracing};
 use crate::flag::Flag;
 use crate::scenes::{Scene, run};
-use dt_hub::{CpuSeat, Fired, Gate, Hub, HubSite, Moment, Offered};
+use dt_hub::{Fired, Gate, Moment, Offered};
 use dt_hub_calls::texts::{DONE, GO};
 use dt_hub_calls::{HubCalls, at_seat};
 use std::alloc::Global;
@@ -55,25 +55,31 @@ impl<R: Clock + Abort> Gate for Meeting<'_, R> {
 }
 
 /// Both processors fire, each on a thread of its own.
-fn both_fire<J: HubSite + Send + Sync, R: Threads + Wait + Abort + Clock + Sync>(
+fn both_fire<H: HubCalls + Sync, R: Threads + Wait + Abort + Clock + Sync>(
     rt: &R,
-    hub: &Hub<J>,
-    one: &mut CpuSeat<J>,
-    other: &mut CpuSeat<J>,
+    hub: &H,
+    one: &mut H::Token,
+    other: &mut H::Token,
     gate: &Meeting<R>,
-) -> (Fired, Fired) {
+) -> (Fired, Fired)
+where
+    H::Token: Send,
+{
     join(rt, || hub.fire(rt, one, gate), || hub.fire(rt, other, gate))
 }
 
 /// Two sessions, of which the first enabled what processor 0 fires and the second all, and two processors on threads of their own. `shared` is what the firing of processor 1
 /// comes to at the first one's seat.
-pub(crate) fn plays<J: HubSite + Send + Sync, R: Threads + Wait + Abort + Clock + Sync>(
+pub(crate) fn plays<H: HubCalls + Sync, R: Threads + Wait + Abort + Clock + Sync>(
     rt: &R,
     alloc: Global,
-    hub: &Hub<J>,
-    tokens: Vec<CpuSeat<J>>,
+    hub: &H,
+    tokens: Vec<H::Token>,
     shared: Offered,
-) -> Result<(), Fail> {
+) -> Result<(), Fail>
+where
+    H::Token: Send,
+{
     let (mut one, mut other) = both(rt, tokens)?;
     // so that neither lies on the first seat
     let aside = opened(rt, alloc, hub, "root");

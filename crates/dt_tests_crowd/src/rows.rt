@@ -3,7 +3,7 @@ use crate::calls::opened;
 use crate::crowd::asks;
 use crate::scenes::{Scene, run};
 use dt_alone::{Verdict, check};
-use dt_hub::{CpuSeat, Fired, Hub, HubSite, NoGate, Offered};
+use dt_hub::{Fired, NoGate, Offered};
 use dt_hub_calls::{HubCalls, TokenCalls, at_seat, trail_text};
 use dt_machine::Machine;
 use std::alloc::{AllocError, Global};
@@ -238,13 +238,16 @@ fn does<H: HubCalls, R: Wait + Abort + Clock>(
 }
 
 /// All parts at once, each on a thread of its own.
-fn all_do<J: HubSite + Send + Sync, R: Threads + Wait + Abort + Clock + Sync>(
+fn all_do<H: HubCalls + Sync, R: Threads + Wait + Abort + Clock + Sync>(
     rt: &R,
     alloc: Global,
-    hub: &Hub<J>,
-    board: &Board<CpuSeat<J>>,
-    parts: Vec<Part<CpuSeat<J>>>,
-) -> Result<(), AllocError> {
+    hub: &H,
+    board: &Board<H::Token>,
+    parts: Vec<Part<H::Token>>,
+) -> Result<(), AllocError>
+where
+    H::Token: Send,
+{
     let results = map_vec(rt, parts, &move |part| does(rt, alloc, hub, board, part))?;
     for result in results {
         result?;
@@ -253,12 +256,15 @@ fn all_do<J: HubSite + Send + Sync, R: Threads + Wait + Abort + Clock + Sync>(
 }
 
 /// Three sessions and two processors.
-pub(crate) fn plays<J: HubSite + Send + Sync, R: Threads + Wait + Abort + Clock + Sync>(
+pub(crate) fn plays<H: HubCalls + Sync, R: Threads + Wait + Abort + Clock + Sync>(
     rt: &R,
     alloc: Global,
-    hub: &Hub<J>,
-    tokens: Vec<CpuSeat<J>>,
-) -> Result<(), Fail> {
+    hub: &H,
+    tokens: Vec<H::Token>,
+) -> Result<(), Fail>
+where
+    H::Token: Send,
+{
     let board = Board {
         machine: Machine::read(alloc, MACHINE.as_bytes())?,
         opened: AtomicU64::new(0),

@@ -5,6 +5,7 @@ ghost use Rattle.std.specs.Prelude.{◌≡◌};
 use crate::gates::Meanwhile;
 use crate::{crowd, gates, meeting, rows};
 use dt_hub::{Hub, HubParts, HubSite, Offered};
+use dt_hub_calls::HubCalls;
 use dt_machine::Machine;
 use std::alloc::Global;
 use std::marker::Brand;
@@ -52,13 +53,27 @@ fn staged<J: HubSite + Send + Sync, R: Threads + Wait + Abort + Clock + Sync>(
     requires facts { parts.word ≡ J.word }
 {
     let (hub, tokens) = Hub::<J>::new(rt, alloc, parts)?;
-    let result = match scene {
-        Scene::Held(meanwhile) => gates::plays(rt, alloc, &hub, tokens, meanwhile),
-        Scene::Meeting => meeting::plays(rt, alloc, &hub, tokens, Offered::NotNamed),
-        Scene::Passing => meeting::plays(rt, alloc, &hub, tokens, Offered::Kept),
-        Scene::Crowd => crowd::plays(rt, alloc, &hub, tokens),
-        Scene::Rows => rows::plays(rt, alloc, &hub, tokens),
-    };
+    let result = played(rt, alloc, &hub, tokens, scene);
     hub.end(rt);
     result
+}
+
+/// Plays on a hub that threads may share, with tokens that may go to them.
+fn played<H: HubCalls + Sync, R: Threads + Wait + Abort + Clock + Sync>(
+    rt: &R,
+    alloc: Global,
+    hub: &H,
+    tokens: Vec<H::Token>,
+    scene: Scene,
+) -> Result<(), Fail>
+where
+    H::Token: Send,
+{
+    match scene {
+        Scene::Held(meanwhile) => gates::plays(rt, alloc, hub, tokens, meanwhile),
+        Scene::Meeting => meeting::plays(rt, alloc, hub, tokens, Offered::NotNamed),
+        Scene::Passing => meeting::plays(rt, alloc, hub, tokens, Offered::Kept),
+        Scene::Crowd => crowd::plays(rt, alloc, hub, tokens),
+        Scene::Rows => rows::plays(rt, alloc, hub, tokens),
+    }
 }

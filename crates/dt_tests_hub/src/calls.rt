@@ -3,7 +3,7 @@ ghost use Rattle.std.specs.Prelude.{◌≡◌};
 
 use dt_chain::SEATS;
 use dt_hub::{Hub, HubParts, HubSite, Offered};
-use dt_hub_calls::{HubCalls, TokenCalls, at_seat, two_of};
+use dt_hub_calls::{HubCalls, TokenCalls, answered, at_seat, two_of};
 use dt_machine::Machine;
 use std::alloc::Global;
 use std::marker::Brand;
@@ -75,7 +75,7 @@ pub(crate) fn says<H: HubCalls, R: Wait + Abort>(
     line: &str,
     reply: &str,
 ) {
-    let answer = hub.ask(rt, alloc, session, line);
+    let answer = answered(rt, alloc, hub, session, line);
     assert!(rt; answer.text() == reply.as_bytes(), "another reply");
 }
 

@@ -1,8 +1,8 @@
 //! What an answer tells of its session's end.
 use crate::calls::{Play, opened, run};
 use dt_hub::LineAnswer;
-use dt_hub_calls::HubCalls;
 use dt_hub_calls::texts::{DONE, MACHINE};
+use dt_hub_calls::{HubCalls, answered};
 use std::alloc::Global;
 use std::process::Abort;
 use std::sync::Wait;
@@ -28,7 +28,7 @@ impl Play for Ends {
     ) -> Result<(), Fail> {
         drop(tokens);
         let mut first = opened(rt, alloc, hub, "root");
-        let answer = hub.ask(rt, alloc, &mut first, CLOSE);
+        let answer = answered(rt, alloc, hub, &mut first, CLOSE);
         assert!(rt;
             matches!(answer, LineAnswer::Closed(_)),
             "not told as closed"
@@ -37,13 +37,13 @@ impl Play for Ends {
         hub.close(rt, first);
         let mut second = opened(rt, alloc, hub, "root");
         for _ in 0..QUOTA {
-            let answer = hub.ask(rt, alloc, &mut second, STATUS);
+            let answer = answered(rt, alloc, hub, &mut second, STATUS);
             assert!(rt;
                 matches!(answer, LineAnswer::Reply(_)),
                 "not told as going on"
             );
         }
-        let answer = hub.ask(rt, alloc, &mut second, CLOSE);
+        let answer = answered(rt, alloc, hub, &mut second, CLOSE);
         assert!(rt;
             matches!(answer, LineAnswer::Quota(_)),
             "not told as over the quota"

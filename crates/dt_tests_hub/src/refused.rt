@@ -6,7 +6,7 @@ use crate::met::{Firing, MANY, comes, comes_to, meet};
 use crate::paths::looks;
 use dt_hub::{LineAnswer, Offered};
 use dt_hub_calls::texts::{DONE, ENABLE, ENABLE_WRITES, ENABLED, GO, MACHINE, STOP};
-use dt_hub_calls::{HubCalls, Sight};
+use dt_hub_calls::{HubCalls, Sight, answered};
 use std::alloc::{AllocError, Global};
 use std::process::Abort;
 use std::sync::Wait;
@@ -60,20 +60,20 @@ impl Play for AfterGo {
         let (mut one, _other) = both(rt, tokens)?;
         let mut first = enabled(rt, alloc, hub);
         let mut second = enabled(rt, alloc, hub);
-        drop(hub.ask(rt, alloc, &mut first, GO));
+        drop(answered(rt, alloc, hub, &mut first, GO));
         match self.then {
             Then::Closes => {
                 hub.close(rt, first);
                 traces_alone(rt, alloc, hub, &mut second, &mut one);
             }
             Then::AsksClose => {
-                drop(hub.ask(rt, alloc, &mut first, CLOSE));
+                drop(answered(rt, alloc, hub, &mut first, CLOSE));
                 traces_alone(rt, alloc, hub, &mut second, &mut one);
                 hub.close(rt, first);
             }
             Then::GoesAgain => {
-                drop(hub.ask(rt, alloc, &mut first, GO));
-                drop(hub.ask(rt, alloc, &mut first, STOP));
+                drop(answered(rt, alloc, hub, &mut first, GO));
+                drop(answered(rt, alloc, hub, &mut first, STOP));
                 traces_alone(rt, alloc, hub, &mut second, &mut one);
                 hub.close(rt, first);
             }
@@ -112,16 +112,16 @@ fn goes_twice<H: HubCalls, R: Wait + Abort>(
     second: &mut H::Session,
     one: &mut Firing<H::Token>,
 ) -> Result<(), AllocError> {
-    let refused = matches!(hub.ask(rt, alloc, first, GO), LineAnswer::Memory);
+    let refused = matches!(answered(rt, alloc, hub, first, GO), LineAnswer::Memory);
     one.wants_writes = refused;
     let (go, stop) = if refused { (2, 3) } else { (1, 4) };
-    drop(hub.ask(rt, alloc, first, ENABLE_WRITES));
+    drop(answered(rt, alloc, hub, first, ENABLE_WRITES));
     says(rt, alloc, hub, second, GO, DONE);
     comes_early(rt, hub, one, refused)?;
     comes_early(rt, hub, one, refused)?;
     comes_early(rt, hub, one, refused)?;
     comes_to(rt, hub, one, Offered::NotNamed)?;
-    drop(hub.ask(rt, alloc, first, GO));
+    drop(answered(rt, alloc, hub, first, GO));
     comes_to(rt, hub, one, Offered::Kept)?;
     let write = if refused {
         Offered::Kept
