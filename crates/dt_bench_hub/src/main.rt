@@ -119,7 +119,9 @@ fn done<H: HubCalls + Sync, R: Threads + Wait + Clock + Sync>(
     work: &Work,
 ) -> Option<Vec<u8>>
 where
+    H::Session: Send,
     H::Token: Send,
+    H::Receipt: Send,
 {
     let mut tokens = tokens;
     match work {

@@ -128,7 +128,9 @@ fn fire_together<H: HubCalls + Sync, R: Threads + Wait + Clock + Sync>(
     other: &mut H::Token,
 ) -> Measured
 where
+    H::Session: Send,
     H::Token: Send,
+    H::Receipt: Send,
 {
     let (first, second) = join(
         rt,
@@ -146,7 +148,9 @@ fn both_fire<H: HubCalls + Sync, R: Threads + Wait + Clock + Sync>(
     scene: &Scene,
 ) -> Measured
 where
+    H::Session: Send,
     H::Token: Send,
+    H::Receipt: Send,
 {
     let Some(one) = tokens.pop() else {
         return Measured::none();
@@ -206,7 +210,9 @@ pub(crate) fn opens<H: HubCalls + Sync, R: Threads + Wait + Clock + Sync>(
     left: u64,
 ) -> Measured
 where
+    H::Session: Send,
     H::Token: Send,
+    H::Receipt: Send,
 {
     if left == 0 {
         return both_fire(rt, hub, tokens, scene);

@@ -231,7 +231,9 @@ fn all_do<H: HubCalls + Sync, R: Threads + Wait + Abort + Clock + Sync>(
     works: Vec<Work<H::Token>>,
 ) -> Result<(Tally, Vec<Firer<H::Token>>), AllocError>
 where
+    H::Session: Send,
     H::Token: Send,
+    H::Receipt: Send,
 {
     let results = map_vec(rt, works, &move |work| does(rt, alloc, hub, board, work))?;
     let mut all = NOTHING;
@@ -255,7 +257,9 @@ fn round<H: HubCalls + Sync, R: Threads + Wait + Abort + Clock + Sync>(
     firers: Vec<Firer<H::Token>>,
 ) -> Result<(Tally, Vec<Firer<H::Token>>), AllocError>
 where
+    H::Session: Send,
     H::Token: Send,
+    H::Receipt: Send,
 {
     board.firing.store(4, Ordering::SeqCst);
     let mut works = Vec::new(alloc);
@@ -279,7 +283,9 @@ fn rounds<H: HubCalls + Sync, R: Threads + Wait + Abort + Clock + Sync>(
     tokens: Vec<H::Token>,
 ) -> Result<Tally, AllocError>
 where
+    H::Session: Send,
     H::Token: Send,
+    H::Receipt: Send,
 {
     let firers = stay.begins(rt, alloc, hub, tokens)?;
     let (early, mut firers) = round(rt, alloc, hub, board, firers)?;
@@ -302,7 +308,9 @@ pub(crate) fn plays<H: HubCalls + Sync, R: Threads + Wait + Abort + Clock + Sync
     tokens: Vec<H::Token>,
 ) -> Result<(), Fail>
 where
+    H::Session: Send,
     H::Token: Send,
+    H::Receipt: Send,
 {
     let text = machine(alloc)?;
     let board = Board::new(Machine::read(alloc, text.as_bytes())?);

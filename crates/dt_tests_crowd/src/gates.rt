@@ -261,7 +261,9 @@ fn beside<H: HubCalls + Sync, R: Threads + Wait + Abort + Clock + Sync>(
     meanwhile: Meanwhile,
 ) -> Fired
 where
+    H::Session: Send,
     H::Token: Send,
+    H::Receipt: Send,
 {
     let (came, _) = join(
         rt,
@@ -287,7 +289,9 @@ pub(crate) fn plays<H: HubCalls + Sync, R: Threads + Wait + Abort + Clock + Sync
     meanwhile: Meanwhile,
 ) -> Result<(), Fail>
 where
+    H::Session: Send,
     H::Token: Send,
+    H::Receipt: Send,
 {
     let (mut one, mut other) = both(rt, tokens)?;
     let hold = Hold::new(rt, meanwhile);

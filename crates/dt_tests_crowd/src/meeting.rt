@@ -63,7 +63,9 @@ fn both_fire<H: HubCalls + Sync, R: Threads + Wait + Abort + Clock + Sync>(
     gate: &Meeting<R>,
 ) -> (Fired, Fired)
 where
+    H::Session: Send,
     H::Token: Send,
+    H::Receipt: Send,
 {
     join(rt, || hub.fire(rt, one, gate), || hub.fire(rt, other, gate))
 }
@@ -78,7 +80,9 @@ pub(crate) fn plays<H: HubCalls + Sync, R: Threads + Wait + Abort + Clock + Sync
     shared: Offered,
 ) -> Result<(), Fail>
 where
+    H::Session: Send,
     H::Token: Send,
+    H::Receipt: Send,
 {
     let (mut one, mut other) = both(rt, tokens)?;
     // so that neither lies on the first seat

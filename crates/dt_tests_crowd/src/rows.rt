@@ -246,7 +246,9 @@ fn all_do<H: HubCalls + Sync, R: Threads + Wait + Abort + Clock + Sync>(
     parts: Vec<Part<H::Token>>,
 ) -> Result<(), AllocError>
 where
+    H::Session: Send,
     H::Token: Send,
+    H::Receipt: Send,
 {
     let results = map_vec(rt, parts, &move |part| does(rt, alloc, hub, board, part))?;
     for result in results {
@@ -263,7 +265,9 @@ pub(crate) fn plays<H: HubCalls + Sync, R: Threads + Wait + Abort + Clock + Sync
     tokens: Vec<H::Token>,
 ) -> Result<(), Fail>
 where
+    H::Session: Send,
     H::Token: Send,
+    H::Receipt: Send,
 {
     let board = Board {
         machine: Machine::read(alloc, MACHINE.as_bytes())?,

@@ -67,7 +67,9 @@ fn played<H: HubCalls + Sync, R: Threads + Wait + Abort + Clock + Sync>(
     scene: Scene,
 ) -> Result<(), Fail>
 where
+    H::Session: Send,
     H::Token: Send,
+    H::Receipt: Send,
 {
     match scene {
         Scene::Held(meanwhile) => gates::plays(rt, alloc, hub, tokens, meanwhile),
