@@ -27,9 +27,6 @@ use std::sync::Wait;
 use std::thread::Threads;
 use std::{env, fs, io};
 
-/// Asks a session how it is: whether it still traces.
-pub(crate) const STATUS: &str = r#"{"cmd":"status"}"#;
-
 /// What is to be done.
 #[derive(Drop)]
 enum Work {

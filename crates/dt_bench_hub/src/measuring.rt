@@ -1,7 +1,7 @@
 //! Sessions that trace, and processors that fire.
-use crate::STATUS;
 use crossbeam_utils::CachePadded;
 use dt_hub::{Fired, LineAnswer, NoGate};
+use dt_hub_calls::texts::STATUS;
 use dt_hub_calls::{HubCalls, answered};
 use std::alloc::Global;
 use std::fmt;
@@ -85,15 +85,17 @@ impl fmt::Display for Measured {
     }
 }
 
-/// A processor fires its script, so many places of it at most.
+/// A processor fires its script, so many times at most. Answers how many firings it made.
 fn fires_most<H: HubCalls, R: Wait>(rt: &R, hub: &H, token: &mut H::Token, most: u64) -> u64 {
-    for count in 0..most {
+    let mut made = 0u64;
+    for _ in 0..most {
         match hub.fire(rt, token, &NoGate) {
-            Fired::End => return count,
-            Fired::Refused | Fired::At(_) => {}
+            Fired::End => break,
+            Fired::Refused => {}
+            Fired::At(_) => made = made.wrapping_add(1),
         }
     }
-    most
+    made
 }
 
 /// The same, measured. Where the clock can't be read no firing is told.

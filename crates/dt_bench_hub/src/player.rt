@@ -1,6 +1,6 @@
 //! Sessions on the first seats, which step lines play.
-use crate::STATUS;
 use dt_hub::{Gate, LineAnswer, Moment, NoGate};
+use dt_hub_calls::texts::STATUS;
 use dt_hub_calls::{HubCalls, TokenCalls};
 use dt_proto::Asked;
 use std::alloc::Global;

@@ -1,5 +1,5 @@
-//! What holds of what a session is answered, and what may be done with the types: threads may share a hub, and a processor and a receipt may go to another
-//! thread.
+//! What holds of what a session is answered, and what may be done with the types: threads may share a hub, and a session, a processor and a receipt may go to
+//! another thread.
 ghost use Rattle.std.specs.Prelude.{◌≡◌, ◌≢◌, ◌≤◌, ◌+◌, ◌++◌, ◌∷◌, ◌↔◌, ℕ, List, [], Some, length, slice_get};
 ghost use Rattle.dt_cred.specs.declared.firing.Firing.{Firing};
 ghost use Rattle.dt_ecb.specs.Ecbs.{of_probe};
@@ -21,7 +21,7 @@ ghost use Rattle.dt_trail.specs.Items.{StartsWith, TrailItem, fired, whose};
 
 use crate::cpu_seat::CpuSeat;
 use crate::hub::Hub;
-use dt_seat::{HubSite, Receipt};
+use dt_seat::{HubSite, Receipt, Session};
 
 /// Takes what threads may share.
 fn takes_shared<T: Sync>(_one: &T) {}
@@ -59,6 +59,11 @@ pub fn meeting_is_complete()
 /// Threads may share a hub whose site may itself be sent and shared, `Send` and `Sync`: each may have a `&` to it.
 pub fn threads_share<J: HubSite + Send + Sync>(hub: &Hub<J>) {
     takes_shared(hub);
+}
+
+/// A session may go to another thread.
+pub fn sessions_move<J: HubSite + Send + Sync>(session: &Session<J>) {
+    takes_sent(session);
 }
 
 /// A processor may go to another thread.

@@ -139,6 +139,9 @@ fn all_seats<J: HubSite>(
 impl<J: HubSite> Hub<J> {
     /// A hub with all seats free and nothing published, and the token of each processor, in order.
     ///
+    /// It is called in a function that is generic in the site, which its caller picks, once for each hub: all that belongs to this hub has its site in its type, so that a token of
+    /// another hub is refused.
+    ///
     /// `Err`: there was no memory, or the chains gave no reader to a processor.
     pub fn new<R: Wait>(
         rt: &R,

@@ -47,10 +47,13 @@ pub trait TokenCalls {
 
 /// The calls of a hub.
 pub trait HubCalls {
+    /// A session's token. It ends by [`HubCalls::close`].
     type Session: SessionCalls;
 
+    /// A processor's token.
     type Token: TokenCalls + Drop;
 
+    /// What a session knew, for a processor.
     type Receipt: Drop;
 
     /// Opens a session for the account of this name.

@@ -1,6 +1,6 @@
 //! The texts that both crates of tests ask and are answered.
 
-/// A machine on which one system call is made, by a shell.
+/// A machine of two processors, each of which makes one system call: the first by a shell, the other by cron.
 pub const MACHINE: &str = r#"{"cpus":2,
 "accounts":[{"name":"root","uid":0,"privs":["dtrace_kernel"]},{"name":"ann","uid":501,"privs":["dtrace_user"]},
 {"name":"joe","uid":501,"privs":["proc_owner"]}],
@@ -19,6 +19,9 @@ pub const ENABLED: &str = "{\"count\":1,\"first\":1,\"ok\":true}\n";
 
 /// A session begins to trace.
 pub const GO: &str = r#"{"cmd":"go"}"#;
+
+/// It asks how it stands.
+pub const STATUS: &str = r#"{"cmd":"status"}"#;
 
 /// It stops.
 pub const STOP: &str = r#"{"cmd":"stop"}"#;

@@ -2,6 +2,7 @@
 use crate::crowd::{Board, asks};
 use dt_alone::{Verdict, check};
 use dt_hub::{Fired, NoGate};
+use dt_hub_calls::texts::{GO, STATUS, STOP};
 use dt_hub_calls::{HubCalls, LifeHeard, SessionCalls, Sight, TokenCalls, meet_heard, trail_text};
 use std::alloc::{AllocError, Global};
 use std::process::Abort;
@@ -11,25 +12,21 @@ use std::sync::Wait;
 const FIRST_LINES: [&str; 3] = [
     r#"{"cmd":"option","name":"histsize","value":3000}"#,
     r#"{"cmd":"enable","text":"syscall:::entry{@c[execname]=count();trace(pid)}"}"#,
-    r#"{"cmd":"go"}"#,
+    GO,
 ];
 
 /// What the second asks, which sees one firing in four.
 const SECOND_LINES: [&str; 3] = [
     r#"{"cmd":"option","name":"histsize","value":10000}"#,
     r#"{"cmd":"enable","text":"syscall::read:entry{@c[pid]=count()}"}"#,
-    r#"{"cmd":"go"}"#,
+    GO,
 ];
 
 /// What either asks between the two rounds of firings.
-const STATUS: [&str; 1] = [r#"{"cmd":"status"}"#];
+const BETWEEN: [&str; 1] = [STATUS];
 
 /// What either asks after them.
-const LAST_LINES: [&str; 3] = [
-    r#"{"cmd":"stop"}"#,
-    r#"{"cmd":"agg","name":"c"}"#,
-    r#"{"cmd":"status"}"#,
-];
+const LAST_LINES: [&str; 3] = [STOP, r#"{"cmd":"agg","name":"c"}"#, STATUS];
 
 const FIRST: Sight = Sight {
     go: 2,
@@ -199,7 +196,7 @@ impl<H: HubCalls> Stay<H> {
             hub.tell(token, receipt);
             second.learns(known);
         }
-        self.asks(rt, alloc, hub, &STATUS, &STATUS)
+        self.asks(rt, alloc, hub, &BETWEEN, &BETWEEN)
     }
 
     /// After all firings but a few both meet each processor, and stop; then the processors make the rest of them, and both meet each once more. Answers how many firings

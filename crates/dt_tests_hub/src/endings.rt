@@ -1,7 +1,7 @@
 //! What an answer tells of its session's end.
 use crate::calls::{Play, opened, run};
 use dt_hub::LineAnswer;
-use dt_hub_calls::texts::{DONE, MACHINE};
+use dt_hub_calls::texts::{DONE, MACHINE, STATUS};
 use dt_hub_calls::{HubCalls, answered};
 use std::alloc::Global;
 use std::process::Abort;
@@ -9,8 +9,6 @@ use std::sync::Wait;
 use std::test::Fail;
 
 pub(crate) const CLOSE: &str = r#"{"cmd":"close"}"#;
-
-const STATUS: &str = r#"{"cmd":"status"}"#;
 
 /// How many lines a session may ask.
 const QUOTA: u32 = 1_024;

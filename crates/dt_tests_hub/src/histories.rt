@@ -1,7 +1,7 @@
 //! A history that two scripts make, and that widens its trail.
 use crate::calls::{Play, both, opened, run, says};
 use dt_hub::{Fired, NoGate};
-use dt_hub_calls::texts::{DONE, GO};
+use dt_hub_calls::texts::{DONE, ENABLED, GO, STATUS};
 use dt_hub_calls::{HubCalls, with_scripts};
 use std::alloc::Global;
 use std::process::Abort;
@@ -20,14 +20,10 @@ const HISTORY: &str = r#"{"cmd":"option","name":"histsize","value":65537}"#;
 
 const COUNT: &str = r#"{"cmd":"enable","text":"read:entry{@c=count()}"}"#;
 
-const COUNTED: &str = "{\"count\":1,\"first\":1,\"ok\":true}\n";
-
 const AGG: &str = r#"{"cmd":"agg","name":"c"}"#;
 
 const ROWS: &str =
     "{\"fn\":\"count\",\"name\":\"c\",\"ok\":true,\"rows\":[{\"key\":[],\"value\":65537}]}\n";
-
-const STATUS: &str = r#"{"cmd":"status"}"#;
 
 const ENDED: &str =
     "{\"aggdrops\":[0,0],\"cause\":\"history\",\"dyndrops\":[0,0],\"errors\":[0,0],\"exit\":null,\"ok\":true,\"phase\":\"stopped\",\"seen\":65537,\"specdrops\":[0,0],\"specfails\":0}\n";
@@ -65,7 +61,7 @@ impl Play for LongHistory {
         let (mut one, mut other) = both(rt, tokens)?;
         let mut session = opened(rt, alloc, hub, "root");
         says(rt, alloc, hub, &mut session, HISTORY, DONE);
-        says(rt, alloc, hub, &mut session, COUNT, COUNTED);
+        says(rt, alloc, hub, &mut session, COUNT, ENABLED);
         says(rt, alloc, hub, &mut session, GO, DONE);
         assert_eq!(rt; fires_all(rt, hub, &mut one, &mut other), 80_000);
         says(rt, alloc, hub, &mut session, AGG, ROWS);

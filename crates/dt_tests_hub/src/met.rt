@@ -2,7 +2,7 @@
 use crate::calls::{Play, both, opened, run, says};
 use crate::paths::{ONE_RECORD, SNAP, tracing};
 use dt_hub::{Fired, NoGate, Offered};
-use dt_hub_calls::texts::{DONE, ENABLE, ENABLED, GO, STOP};
+use dt_hub_calls::texts::{DONE, ENABLE, ENABLED, GO, STATUS, STOP};
 use dt_hub_calls::{HubCalls, LifeHeard, SessionCalls, Sight, TokenCalls, meet_heard};
 use std::alloc::{AllocError, Global};
 use std::process::Abort;
@@ -24,8 +24,6 @@ fn is_write(cpu: u32, place: u32) -> bool {
 }
 
 const TWO_FIRINGS: &str = r#"{"cmd":"option","name":"histsize","value":2}"#;
-
-const STATUS: &str = r#"{"cmd":"status"}"#;
 
 const ENDED: &str =
     "{\"aggdrops\":[0,0],\"cause\":\"history\",\"dyndrops\":[0,0],\"errors\":[0,0],\"exit\":null,\"ok\":true,\"phase\":\"stopped\",\"seen\":2,\"specdrops\":[0,0],\"specfails\":0}\n";
