@@ -36,12 +36,12 @@ OPEN_STEP = re.compile(r"(open|call|fire|close) ([0-9]+) ?(.*)", re.S)
 
 
 @contextlib.contextmanager
-def serving(text):
+def serving(text, **more):
     """A service of a machine."""
     with tempfile.TemporaryDirectory() as name:
         path = pathlib.Path(name) / "machine.json"
         path.write_text(text, encoding="utf-8")
-        with built.serving(PROGRAM, path) as service:
+        with built.serving(PROGRAM, path, **more) as service:
             yield service
 
 
@@ -194,6 +194,21 @@ def gives_back(_folder):
         yield "most of its memory is given back", resident - service.resident() >= TRAIL_BYTES / 2, True
 
 
+def gives_back_beside(_folder):
+    """The same of many sessions beside a large machine, where the C library is told to ask the system for each large block: by itself it keeps them, once larger ones were freed."""
+    with serving(machine([[fired(7)] * FIRINGS_MAX]), env={**os.environ, "MALLOC_MMAP_THRESHOLD_": "131072"}) as service:
+        empty = service.resident()
+        clients = [service.client() for _ in range(64)]
+        yield "they are answered", {client.ask(STATUS) for client in clients}, {STATUS_REPLY}
+        full = service.resident()
+        for client in clients:
+            client.close()
+        end = time.monotonic() + PATIENCE / 4
+        while service.resident() - empty > (full - empty) / 4 and time.monotonic() < end:
+            time.sleep(0.01)
+        yield "most of their memory is given back", service.resident() - empty <= (full - empty) / 4, True
+
+
 def never_reads(_folder):
     """A client that floods and never reads costs another nothing."""
     with serving(machine([[fired(7)]])) as service:
@@ -315,20 +330,23 @@ def long_steps(_folder):
 
 
 def no_threads(folder):
-    """A service that may start no thread: by somebody who isn't root, for whom there is a limit."""
+    """A service that may start too few threads, or just enough: by somebody who isn't root, for whom there is a limit."""
     sockets = folder / "sockets"
     sockets.mkdir()
     program, path = folder / "dtraced", folder / "machine.json"
     shutil.copy(PROGRAM, program)
-    path.write_text(machine([[]]), encoding="utf-8")
+    path.write_text(machine([[], []], names=("root", "ann")), encoding="utf-8")
     who = {}
     if os.geteuid() == 0:
         who = {"user": NOBODY}
         folder.chmod(0o755)
         os.chown(sockets, NOBODY, NOBODY)
-    ran = subprocess.run([str(program), "serve", str(path), str(sockets)], stdin=subprocess.DEVNULL, stdout=subprocess.PIPE, stderr=subprocess.PIPE,
-                         check=False, timeout=PATIENCE, preexec_fn=lambda: resource.setrlimit(resource.RLIMIT_NPROC, (1, 1)), **who)
-    yield "no thread", (ran.stdout, ran.stderr, ran.returncode, os.listdir(sockets)), (b"", b"fault\n", 1, [])
+    # the program's own thread, and then the hub's, two processors' and two sockets'
+    for threads in range(1, 7):
+        ran = subprocess.run([str(program), "serve", str(path), str(sockets)], stdin=subprocess.DEVNULL, stdout=subprocess.PIPE, stderr=subprocess.PIPE,
+                             check=False, timeout=PATIENCE, preexec_fn=lambda most=threads: resource.setrlimit(resource.RLIMIT_NPROC, (most, most)), **who)
+        told = (b"", b"fault\n", 1) if threads < 6 else (b"ready\n", b"", 0)
+        yield f"{threads} threads at most", (ran.stdout, ran.stderr, ran.returncode, os.listdir(sockets)), (*told, [])
 
 
 def no_descriptors(_folder):
@@ -384,11 +402,41 @@ def refused(folder):
     yield "a service whose input is at its end", (starts(), os.listdir(sockets)), ((b"ready\n", b"", 0), [])
     (sockets / "ann.sock").write_text("mine", encoding="utf-8")
     yield "a path that is there", (starts(), sorted(os.listdir(sockets)), (sockets / "ann.sock").read_text(encoding="utf-8")), ((b"", b"fault\n", 1), ["ann.sock"], "mine")
+    (sockets / ".new").mkdir()
+    yield "the folder that sockets are made in is there", (starts(), sorted(os.listdir(sockets))), ((b"", b"fault\n", 1), [".new", "ann.sock"])
     sockets = folder / "missing"
     yield "no folder", starts(), (b"", b"fault\n", 1)
+    # in a socket's path there is room for 102 bytes
+    for length, told in ((102, (b"ready\n", b"", 0)), (103, (b"", b"fault\n", 1))):
+        sockets = folder / ("x" * (length - len(f"{folder}//root.sock")))
+        sockets.mkdir()
+        yield f"a path of {length} bytes", (starts(), os.listdir(sockets)), (told, [])
+    # else these would be paths of the root's
+    sockets = ""
+    yield "a folder without a name", starts(), (b"", b"fault\n", 1)
     ran = subprocess.run([PROGRAM, "send", str(folder / "nobody")], input=STATUS, stdout=subprocess.PIPE, stderr=subprocess.PIPE, check=False)
     yield "nobody at a path", (ran.stdout, ran.stderr, ran.returncode), (b"", b"fault\n", 1)
 
 
+def closed_streams(_folder):
+    """A client whose standard input or output is closed: its connection isn't taken for either."""
+    with serving(machine([[]])) as service:
+        words = [PROGRAM, "send", str(service.socket_of("root"))]
+        ran = subprocess.run(words, stdout=subprocess.PIPE, stderr=subprocess.PIPE, check=False, timeout=PATIENCE, preexec_fn=lambda: os.close(0))
+        yield "a client without an input", (ran.stdout, ran.stderr, ran.returncode), (b"", b"fault\n", 1)
+        ran = subprocess.run(words, input=STATUS * 2, stderr=subprocess.PIPE, check=False, timeout=PATIENCE, preexec_fn=lambda: os.close(1))
+        yield "a client without an output", (ran.stderr, ran.returncode), (b"fault\n", 1)
+
+
+def others_paths(_folder):
+    """A service removes the paths of its own sockets alone."""
+    with serving(machine([[]], names=("root", "ann"))) as service:
+        path = service.socket_of("root")
+        os.remove(path)
+        pathlib.Path(path).write_text("mine", encoding="utf-8")
+        yield "what isn't a service's stays", (service.end().told, os.listdir(service.folder)), ((b"", b"", 0), ["root.sock"])
+
+
 signal.signal(signal.SIGPIPE, signal.SIG_IGN)
-judge(rows, all_seats, comes_and_goes, gives_back, never_reads, stalls, cut_anywhere, session_ends, commands, long_steps, no_threads, no_descriptors, refused)
+judge(rows, all_seats, comes_and_goes, gives_back, gives_back_beside, never_reads, stalls, cut_anywhere, session_ends, commands, long_steps, no_threads, no_descriptors, refused,
+      closed_streams, others_paths)

@@ -7,6 +7,7 @@
 //! `dt_server::serve_session` is proved to serve.
 #![tactic(auto)]
 
+mod account_sockets;
 pub mod command;
 mod commanding;
 pub mod fault;
@@ -14,6 +15,7 @@ pub mod laws;
 pub mod seat;
 mod sending;
 mod starting;
+mod streams;
 mod words;
 pub mod writing;
 
@@ -28,11 +30,16 @@ use std::rt::{Clock, Env, Files};
 use std::sync::Wait;
 use std::thread::Threads;
 use std::{env, fs, io};
+use streams::hold_streams;
 use words::{Words, WordsFault};
 use writing::{write_check, write_replay};
 
 fn main(rt: HostRuntime) -> ExitCode {
-    match execute(&rt, rt) {
+    let done = match hold_streams(&rt) {
+        Ok(()) => execute(&rt, rt),
+        Err(fault) => Err(fault),
+    };
+    match done {
         Ok(status) => status,
         Err(fault) => {
             // Where standard error fails too, the status is all that tells.

@@ -1,24 +1,19 @@
 //! How a service starts, and ends.
 
+use crate::account_sockets::{MadePath, make_sockets};
 use crate::commanding::obey_input;
 use crate::fault::Fault;
 use dt_hub::NoGate;
 use dt_machine::Machine;
-use dt_names::Name;
 use dt_proto::Lines;
-use dt_server::{AccountSocket, Desk, Shared, serve_machine};
+use dt_server::{Desk, Shared, serve_machine};
 use dt_world::write_whole;
 use std::alloc::Global;
 use std::net::Net;
-use std::os::unix::fs::PermissionsExt;
-use std::os::unix::net::UnixListener;
 use std::rt::{Clock, Files};
 use std::sync::{Arc, Wait};
 use std::thread::Threads;
 use std::{fs, io, thread};
-
-/// Who may connect to a new socket: the user who runs the service alone.
-const OWNER_ALONE: u32 = 0o600;
 
 /// Serves a machine until `quit` or the end of standard input: a socket for each account in the folder, and a line `ready` when all listen. The sockets' paths
 /// are removed at the end, and where the service can't start; the end of the process ends its threads.
@@ -29,15 +24,15 @@ pub(crate) fn serve<
     let text = fs::read(rt, machine).map_err(|_| Fault::Device)?;
     let machine = Machine::read(rt.alloc(), &text).map_err(Fault::Machine)?;
     drop(text);
-    let mut paths = Vec::new(rt.alloc());
-    let result = bind_and_run(rt, threads, machine, folder, &mut paths);
-    for path in &paths {
-        let _removed = fs::remove_file(rt, path.as_str());
+    let mut made = Vec::new(rt.alloc());
+    let result = bind_and_run(rt, threads, machine, folder, &mut made);
+    for path in &made {
+        path.remove(rt);
     }
     result
 }
 
-/// Binds the sockets, starts the service, and obeys the lines of standard input. The paths that were bound are added.
+/// Makes the sockets, starts the service, and obeys the lines of standard input. The paths of the sockets are added.
 fn bind_and_run<
     R: Files + Net + Input + Print + AllocGlobal,
     T: Threads + Wait + Clock + Send + Sync + Copy + Drop + 'static,
@@ -46,13 +41,9 @@ fn bind_and_run<
     threads: T,
     machine: Machine,
     folder: &str,
-    paths: &mut Vec<String>,
+    made: &mut Vec<MadePath>,
 ) -> Result<(), Fault> {
-    let mut sockets = Vec::new(rt.alloc());
-    for account in machine.accounts() {
-        let socket = open_socket(rt, folder, account.name, paths)?;
-        sockets.push(socket).map_err(|_| Fault::Device)?;
-    }
+    let sockets = make_sockets(rt, &machine, folder, made)?;
     let mut desks = Vec::new(rt.alloc());
     for _ in 0..machine.cpus() {
         desks.push(Desk::new()).map_err(|_| Fault::Device)?;
@@ -68,29 +59,6 @@ fn bind_and_run<
     let mut out = io::writer(rt);
     write_whole(&mut out, b"ready\n").map_err(|_| Fault::Device)?;
     obey_input(rt, &threads, &shared, &mut lines, &mut out)
-}
-
-/// Binds the socket of an account, whose path is added.
-fn open_socket<R: Files + Net + AllocGlobal>(
-    rt: &R,
-    folder: &str,
-    name: Name,
-    paths: &mut Vec<String>,
-) -> Result<AccountSocket, Fault> {
-    let Ok(path) = format!(in rt.alloc(); "{folder}/{}.sock", name.as_str()) else {
-        return Err(Fault::Device);
-    };
-    // all room is made first, so that no path is bound that isn't noted down
-    paths.reserve(1).map_err(|_| Fault::Device)?;
-    let Ok(listener) = UnixListener::bind(rt, path.as_str()) else {
-        return Err(Fault::Device);
-    };
-    let set = fs::set_permissions(rt, path.as_str(), fs::Permissions::from_mode(OWNER_ALONE));
-    paths.push_reserved(path);
-    match set {
-        Ok(()) => Ok(AccountSocket { name, listener }),
-        Err(_) => Err(Fault::Device),
-    }
 }
 
 /// Starts the service's thread, and waits until all its threads run.
