@@ -94,12 +94,20 @@ impl ProgramReader {
         }
     }
 
+    /// Stands at a place. All that moves on goes through it, since what stood there before has to be let go of: once here, and not in each caller.
+    fn go_to(&mut self, place: ReaderPlace)
+        ensures { program_state_of self.new ≡ program_at (clauses_of self.old) (clause_of self.old)
+            (place_form (state_of self.old.expression) place) }
+    {
+        self.place = place;
+    }
+
     /// Begins what is read for a slot.
     fn enter(&mut self, slot: Slot)
         ensures { program_state_of self.new ≡ entered (clauses_of self.old) (clause_of self.old) (slot_form slot) }
     {
         self.expression.begin(slot.divides());
-        self.place = ReaderPlace::Within { slot, count: 0 };
+        self.go_to(ReaderPlace::Within { slot, count: 0 });
     }
 
     /// Ends a statement.
@@ -108,7 +116,7 @@ impl ProgramReader {
             ≡ ended (clauses_of self.old) (clause_of self.old) (form_of_statement statement)) }
     {
         self.statements.push(statement)?;
-        self.place = ReaderPlace::AfterStatement;
+        self.go_to(ReaderPlace::AfterStatement);
         Ok(())
     }
 
@@ -124,7 +132,7 @@ impl ProgramReader {
             statements: mem::replace(&mut self.statements, Vec::new(alloc)),
         };
         self.clauses.push(clause)?;
-        self.place = ReaderPlace::Outside;
+        self.go_to(ReaderPlace::Outside);
         Ok(())
     }
 
@@ -139,7 +147,7 @@ impl ProgramReader {
                 self.descriptions = descriptions;
                 self.predicate = None;
                 self.statements = Vec::new(alloc);
-                self.place = ReaderPlace::Described;
+                self.go_to(ReaderPlace::Described);
                 Ok(true)
             }
             _ => Ok(false),
@@ -153,7 +161,7 @@ impl ProgramReader {
     {
         match token {
             Token::Sign(Sign::Comma) => {
-                self.place = ReaderPlace::Listed;
+                self.go_to(ReaderPlace::Listed);
                 true
             }
             Token::Sign(Sign::Slash) => {
@@ -161,7 +169,7 @@ impl ProgramReader {
                 true
             }
             Token::Sign(Sign::OpenBrace) => {
-                self.place = ReaderPlace::BeforeStatement;
+                self.go_to(ReaderPlace::BeforeStatement);
                 true
             }
             _ => false,
@@ -176,7 +184,7 @@ impl ProgramReader {
         match token {
             Token::Description(Ok(description)) => {
                 self.descriptions.push(description)?;
-                self.place = ReaderPlace::Described;
+                self.go_to(ReaderPlace::Described);
                 Ok(true)
             }
             _ => Ok(false),
@@ -190,7 +198,7 @@ impl ProgramReader {
     {
         match token {
             Token::Sign(Sign::OpenBrace) => {
-                self.place = ReaderPlace::BeforeStatement;
+                self.go_to(ReaderPlace::BeforeStatement);
                 true
             }
             _ => false,
@@ -204,17 +212,17 @@ impl ProgramReader {
             (program_state_of self.new)) }
     {
         match token {
-            Token::Sign(Sign::Semicolon) => self.place = ReaderPlace::BeforeStatement,
+            Token::Sign(Sign::Semicolon) => self.go_to(ReaderPlace::BeforeStatement),
             Token::Sign(Sign::CloseBrace) => self.end_clause(alloc)?,
-            Token::Word(Word::Action(action)) => self.place = ReaderPlace::Inside(
+            Token::Word(Word::Action(action)) => self.go_to(ReaderPlace::Inside(
                 StatementPlace::Called(*action),
-            ),
-            Token::Aggregation(name) => self.place = ReaderPlace::Inside(StatementPlace::Named(
-                *name,
             )),
-            Token::Word(Word::Keyword(Keyword::ThreadLocal)) => self.place = ReaderPlace::Inside(
+            Token::Aggregation(name) => self.go_to(ReaderPlace::Inside(StatementPlace::Named(
+                *name,
+            ))),
+            Token::Word(Word::Keyword(Keyword::ThreadLocal)) => self.go_to(ReaderPlace::Inside(
                 StatementPlace::ThreadLocal,
-            ),
+            )),
             // nothing else begins a statement or ends the clause
             _ => return Ok(false),
         }
@@ -228,7 +236,7 @@ impl ProgramReader {
             (program_state_of self.new)) }
     {
         match token {
-            Token::Sign(Sign::Semicolon) => self.place = ReaderPlace::BeforeStatement,
+            Token::Sign(Sign::Semicolon) => self.go_to(ReaderPlace::BeforeStatement),
             Token::Sign(Sign::CloseBrace) => self.end_clause(alloc)?,
             // after a statement stands a `;` or the clause's end
             _ => return Ok(false),
@@ -244,12 +252,12 @@ impl ProgramReader {
         match token {
             Token::Sign(Sign::OpenParen) => {
                 match action {
-                    Action::Stack => self.place = ReaderPlace::Inside(StatementPlace::StackOpened {
+                    Action::Stack => self.go_to(ReaderPlace::Inside(StatementPlace::StackOpened {
                         process: false,
-                    }),
-                    Action::Ustack => self.place = ReaderPlace::Inside(StatementPlace::StackOpened {
+                    })),
+                    Action::Ustack => self.go_to(ReaderPlace::Inside(StatementPlace::StackOpened {
                         process: true,
-                    }),
+                    })),
                     _ => self.enter(Slot::Given(action)),
                 }
                 true
@@ -276,7 +284,7 @@ impl ProgramReader {
         } else {
             Statement::Stack(frames)
         };
-        self.place = ReaderPlace::Inside(StatementPlace::Closing(statement));
+        self.go_to(ReaderPlace::Inside(StatementPlace::Closing(statement)));
         true
     }
 
@@ -310,7 +318,7 @@ impl ProgramReader {
                 true
             }
             Token::Sign(Sign::Equal) => {
-                self.place = ReaderPlace::Inside(StatementPlace::Assigned(target));
+                self.go_to(ReaderPlace::Inside(StatementPlace::Assigned(target)));
                 true
             }
             _ => false,
@@ -324,7 +332,7 @@ impl ProgramReader {
     {
         match token {
             Token::Sign(Sign::Equal) => {
-                self.place = ReaderPlace::Inside(StatementPlace::Assigned(target));
+                self.go_to(ReaderPlace::Inside(StatementPlace::Assigned(target)));
                 true
             }
             _ => false,
@@ -339,7 +347,7 @@ impl ProgramReader {
     {
         match token {
             Token::Word(Word::Function(function)) => {
-                self.place = ReaderPlace::Inside(StatementPlace::Applied(target, *function));
+                self.go_to(ReaderPlace::Inside(StatementPlace::Applied(target, *function)));
                 true
             }
             _ => false,
@@ -356,9 +364,9 @@ impl ProgramReader {
         match token {
             Token::Sign(Sign::OpenParen) => {
                 match function {
-                    Function::Count => self.place = ReaderPlace::Inside(StatementPlace::Closing(
+                    Function::Count => self.go_to(ReaderPlace::Inside(StatementPlace::Closing(
                         target.aggregate(Call::Count),
-                    )),
+                    ))),
                     _ => self.enter(Slot::Value(target, function)),
                 }
                 true
@@ -383,10 +391,10 @@ impl ProgramReader {
     {
         // the longest expression is read: the slot ends at the first token that doesn't go on with it
         if self.expression.push(alloc, token)? {
-            self.place = ReaderPlace::Within {
+            self.go_to(ReaderPlace::Within {
                 slot,
                 count: count + 1,
-            };
+            });
             return Ok(true);
         }
         match self.expression.finish(alloc)? {
@@ -402,7 +410,7 @@ impl ProgramReader {
     {
         match slot {
             Slot::Assignment(name) if count == 0 && token.is_speculation() => {
-                self.place = ReaderPlace::Inside(StatementPlace::Drawing(name));
+                self.go_to(ReaderPlace::Inside(StatementPlace::Drawing(name)));
                 true
             }
             _ => false,
@@ -448,7 +456,7 @@ impl ProgramReader {
         match token {
             Token::Sign(Sign::Slash) => {
                 self.predicate = Some(value);
-                self.place = ReaderPlace::Guarded;
+                self.go_to(ReaderPlace::Guarded);
                 true
             }
             _ => false,
@@ -493,9 +501,9 @@ impl ProgramReader {
         target.keys.push(argument)?;
         match token {
             Token::Sign(Sign::Comma) => self.enter(Slot::Key(target)),
-            Token::Sign(Sign::CloseBracket) => self.place = ReaderPlace::Inside(
-                StatementPlace::Keyed(target),
-            ),
+            Token::Sign(Sign::CloseBracket) => self.go_to(ReaderPlace::Inside(StatementPlace::Keyed(
+                target,
+            ))),
             // after a key stands a further one or the keys' end
             _ => return Ok(false),
         }
@@ -524,11 +532,11 @@ impl ProgramReader {
                 None => Ok(false),
             },
             Token::Sign(Sign::Comma) if function == Function::Lquantize => {
-                self.place = ReaderPlace::Inside(StatementPlace::Bounding(Levels {
+                self.go_to(ReaderPlace::Inside(StatementPlace::Bounding(Levels {
                     target,
                     value,
                     bound: Bound::Lower,
-                }));
+                })));
                 Ok(true)
             }
             _ => Ok(false),
@@ -559,7 +567,7 @@ impl ProgramReader {
     {
         match token {
             Token::Sign(Sign::Arrow) => {
-                self.place = ReaderPlace::Inside(StatementPlace::Arrow);
+                self.go_to(ReaderPlace::Inside(StatementPlace::Arrow));
                 true
             }
             _ => false,
@@ -573,7 +581,7 @@ impl ProgramReader {
     {
         match token.name() {
             Some(name) => {
-                self.place = ReaderPlace::Inside(StatementPlace::Variable(name));
+                self.go_to(ReaderPlace::Inside(StatementPlace::Variable(name)));
                 true
             }
             None => false,
@@ -601,7 +609,7 @@ impl ProgramReader {
     {
         match token {
             Token::Sign(Sign::OpenParen) => {
-                self.place = ReaderPlace::Inside(StatementPlace::Closing(Statement::Draw(name)));
+                self.go_to(ReaderPlace::Inside(StatementPlace::Closing(Statement::Draw(name))));
                 true
             }
             _ => false,
@@ -616,11 +624,11 @@ impl ProgramReader {
     {
         match token {
             Token::Number(number) if *number >= 0 => {
-                self.place = ReaderPlace::Inside(StatementPlace::Bounded(levels, *number));
+                self.go_to(ReaderPlace::Inside(StatementPlace::Bounded(levels, *number)));
                 true
             }
             Token::Sign(Sign::Minus) => {
-                self.place = ReaderPlace::Inside(StatementPlace::Negating(levels));
+                self.go_to(ReaderPlace::Inside(StatementPlace::Negating(levels)));
                 true
             }
             _ => false,
@@ -635,7 +643,7 @@ impl ProgramReader {
     {
         match token {
             Token::Number(number) if *number >= 0 => {
-                self.place = ReaderPlace::Inside(StatementPlace::Bounded(levels, -*number));
+                self.go_to(ReaderPlace::Inside(StatementPlace::Bounded(levels, -*number)));
                 true
             }
             _ => false,
@@ -686,11 +694,11 @@ impl ProgramReader {
         ensures { program_state_of self.new ≡ program_at (clauses_of self.old) (clause_of self.old)
             (inside (bounding target.name (key_forms target) (form_of value) (bound_of bound))) }
     {
-        self.place = ReaderPlace::Inside(StatementPlace::Bounding(Levels {
+        self.go_to(ReaderPlace::Inside(StatementPlace::Bounding(Levels {
             target,
             value,
             bound,
-        }));
+        })));
     }
 
     /// Ends an `lquantize` with these bounds, or says that they are out of range.
