@@ -48,35 +48,80 @@ fn compares<J: Site, R: Wait + Abort>(
     reader: Result<ChainReader<J>, AllocError>,
 ) -> Result<(), Fail> {
     let mut reader = reader?;
-    let mut entries = Entries::new(alloc);
-    entries.reserve()?;
-    let mut refused = None;
-    let mut was_refused = false;
-    let mut count: u64 = 0;
+    let mut beside = Beside::new(alloc)?;
     for number in 0..WRITES {
         let write = write_numbered(alloc, machine, number)?;
-        match published(rt, writer, write.clone()?) {
-            Ok(()) => {
-                if let Some(before) = refused.take() {
-                    if told(rt, writer, &mut reader) == count.wrapping_add(2) {
-                        applied(&mut entries, &before)?;
-                        count = count.wrapping_add(1);
-                    }
-                }
-                applied(&mut entries, &write)?;
-                count = count.wrapping_add(1);
-            }
-            Err(_) => {
-                assert!(rt; !was_refused);
-                was_refused = true;
-                refused = Some(write);
-            }
-        }
-        name_alike(rt, machine, &entries, &mut reader, count)?;
+        beside.writes(rt, writer, &mut reader, write)?;
+        name_alike(rt, machine, &beside.entries, &mut reader, beside.count)?;
     }
-    let all = told(rt, writer, &mut reader);
-    assert_eq!(rt; all, count);
+    assert_eq!(rt; told(rt, writer, &mut reader), beside.count);
     Ok(())
+}
+
+/// Plain `Entries` beside the chains: how many writes they had, the one that the chains refused last, and whether they refused any.
+#[derive(Drop)]
+struct Beside {
+    entries: Entries,
+    count: u64,
+    refused: Option<Write>,
+    was_refused: bool,
+}
+
+impl Beside {
+    fn new(alloc: Global) -> Result<Beside, Fail> {
+        let mut entries = Entries::new(alloc);
+        entries.reserve()?;
+        Ok(Beside {
+            entries,
+            count: 0,
+            refused: None,
+            was_refused: false,
+        })
+    }
+
+    /// A write to the chains, and to the `Entries` if the chains have it.
+    fn writes<J: Site, R: Wait + Abort>(
+        &mut self,
+        rt: &R,
+        writer: &Mutex<ChainWriter<J>>,
+        reader: &mut ChainReader<J>,
+        write: Write,
+    ) -> Result<(), Fail> {
+        if published(rt, writer, write.clone()?).is_err() {
+            return self.refuses(rt, write);
+        }
+        self.catches_up(rt, writer, reader)?;
+        self.applies(&write)
+    }
+
+    fn refuses(&mut self, rt: &impl Abort, write: Write) -> Result<(), Fail> {
+        assert!(rt; !self.was_refused);
+        self.was_refused = true;
+        self.refused = Some(write);
+        Ok(())
+    }
+
+    /// The one that was refused comes with the next one, if it is in the list.
+    fn catches_up<J: Site, R: Wait>(
+        &mut self,
+        rt: &R,
+        writer: &Mutex<ChainWriter<J>>,
+        reader: &mut ChainReader<J>,
+    ) -> Result<(), Fail> {
+        let Some(before) = self.refused.take() else {
+            return Ok(());
+        };
+        if told(rt, writer, reader) == self.count.wrapping_add(2) {
+            self.applies(&before)?;
+        }
+        Ok(())
+    }
+
+    fn applies(&mut self, write: &Write) -> Result<(), Fail> {
+        applied(&mut self.entries, write)?;
+        self.count = self.count.wrapping_add(1);
+        Ok(())
+    }
 }
 
 /// The write of a number: seats, lives, accounts and probes by an even mixture.

@@ -51,6 +51,17 @@ fn policies_show_what_the_table_says(rt: HostRuntime) -> Result<(), Fail> {
 
 /// Makes the line's buffer, does what its words say and compares what is shown.
 fn shows(rt: &impl Abort, alloc: Global, asked: &str, wanted: &str) -> Result<(), Fail> {
+    let (buffer, lengths) = played(rt, alloc, asked)?;
+    let (places, end) = wanted.split_once(' ').ok_or("no end")?;
+    let kept = kept(alloc, &lengths, places)?;
+    has(rt, alloc, &buffer, asked, &kept.0)?;
+    lends(rt, alloc, &buffer, asked, &kept)?;
+    assert!(rt; told(alloc, &buffer)?.as_str() == end, "{asked}");
+    Ok(())
+}
+
+/// The line's buffer after what its words say, and how long each put's record was. It compares what each is answered.
+fn played(rt: &impl Abort, alloc: Global, asked: &str) -> Result<(Principal, Vec<usize>), Fail> {
     let mut words = asked.split_whitespace();
     let mut buffer = buffer_of(alloc, &mut words)?;
     let mut lengths = Vec::new(alloc);
@@ -63,15 +74,31 @@ fn shows(rt: &impl Abort, alloc: Global, asked: &str, wanted: &str) -> Result<()
             assert!(rt; word.ends_with(found), "{word} in {asked}");
         }
     }
-    let (places, end) = wanted.split_once(' ').ok_or("no end")?;
-    let (bytes, kept) = kept(alloc, &lengths, places)?;
-    assert!(rt; content(alloc, &buffer)? == bytes, "{asked}");
-    assert!(rt; told(alloc, &buffer)?.as_str() == end, "{asked}");
-    match lent(alloc, &buffer)? {
-        Some((lent_bytes, lent_lengths)) => {
-            assert!(rt; asked.starts_with("ring"), "{asked}");
-            assert!(rt; lent_bytes == bytes && lent_lengths == kept, "{asked}");
-        }
+    Ok((buffer, lengths))
+}
+
+/// Compares a buffer's content.
+fn has(
+    rt: &impl Abort,
+    alloc: Global,
+    buffer: &Principal,
+    asked: &str,
+    bytes: &[u8],
+) -> Result<(), Fail> {
+    assert!(rt; content(alloc, buffer)?.as_slice() == bytes, "{asked}");
+    Ok(())
+}
+
+/// Compares what a ring lends. Another buffer lends nothing.
+fn lends(
+    rt: &impl Abort,
+    alloc: Global,
+    buffer: &Principal,
+    asked: &str,
+    kept: &(Vec<u8>, Vec<u32>),
+) -> Result<(), Fail> {
+    match lent(alloc, buffer)? {
+        Some(found) => assert!(rt; asked.starts_with("ring") && found == *kept, "{asked}"),
         None => assert!(rt; !asked.starts_with("ring"), "{asked}"),
     }
     Ok(())
