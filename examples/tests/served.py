@@ -32,6 +32,9 @@ STATUS_REPLY = b'{"aggdrops":[0],"cause":null,"dyndrops":[0],"errors":[0],"exit"
 FULL = b'{"error":17,"name":"Full"}\n'
 NO_PRIVILEGE = b'{"error":18,"name":"NoPrivilege"}\n'
 QUOTA = b'{"error":15,"name":"Quota"}\n'
+BAD_JSON = b'{"error":1,"name":"Json"}\n'
+# a stack that is large enough for all threads but those that read lines
+SMALL_STACK = 64 * 1024
 OPEN_STEP = re.compile(r"(open|call|fire|close) ([0-9]+) ?(.*)", re.S)
 
 
@@ -428,6 +431,16 @@ def closed_streams(_folder):
         yield "a client without an output", (ran.stderr, ran.returncode), (b"fault\n", 1)
 
 
+def deep_lines(_folder):
+    """The deepest line, where the system's own stacks would be too small to read it."""
+    with serving(machine([[]]), preexec_fn=lambda: resource.setrlimit(resource.RLIMIT_STACK, (SMALL_STACK, SMALL_STACK))) as service:
+        client = service.client()
+        yield "a line of brackets alone", client.ask(b"[" * 65_536 + b"\n"), BAD_JSON
+        yield "the line after it", client.ask(STATUS), STATUS_REPLY
+        client.close()
+        yield "its end", service.end().told, (b"", b"", 0)
+
+
 def others_paths(_folder):
     """A service removes the paths of its own sockets alone."""
     with serving(machine([[]], names=("root", "ann"))) as service:
@@ -439,4 +452,4 @@ def others_paths(_folder):
 
 signal.signal(signal.SIGPIPE, signal.SIG_IGN)
 judge(rows, all_seats, comes_and_goes, gives_back, gives_back_beside, never_reads, stalls, cut_anywhere, session_ends, commands, long_steps, no_threads, no_descriptors, refused,
-      closed_streams, others_paths)
+      closed_streams, deep_lines, others_paths)

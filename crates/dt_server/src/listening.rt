@@ -18,6 +18,9 @@ use std::time::Duration;
 /// How long nothing is accepted after a failure.
 const PAUSE_MILLIS: u64 = 20;
 
+/// The stack of a session's thread, in bytes. What the system would give is the operator's to set, and may be too little for a line whose brackets are as deep as it is long.
+const SESSION_STACK: usize = 1 << 20;
+
 /// What a client is told that finds no free seat.
 const FULL_LINE: &[u8] = b"{\"error\":17,\"name\":\"Full\"}\n";
 
@@ -53,7 +56,7 @@ fn begin<'s, 'e: 's, J: HubSite + Send + Sync, R: Threads + Wait + Sync>(
     scope: &'s Scope<'s, &'e ()>,
 ) {
     let spare = stream.try_clone();
-    let started = Builder::new().spawn_scoped(
+    let started = Builder::new().stack_size(SESSION_STACK).spawn_scoped(
         scope,
         move || serve_stream(rt, alloc, hub, shared, socket, stream),
     );
