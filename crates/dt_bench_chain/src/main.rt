@@ -116,17 +116,29 @@ fn measured_in_turn<J: Site, R: Wait + Clock>(
 ) -> Option<Measures> {
     let mut entries = Entries::new(alloc);
     entries.reserve().ok()?;
+    measured_beside(rt, alloc, scene, writer, reader, &mut entries)
+}
+
+/// The same, beside plain `Entries` that have room.
+fn measured_beside<J: Site, R: Wait + Clock>(
+    rt: &R,
+    alloc: Global,
+    scene: &Scene,
+    writer: &mut ChainWriter<J>,
+    reader: &mut ChainReader<J>,
+    entries: &mut Entries,
+) -> Option<Measures> {
     let entry = entering(rt, alloc)?;
-    let plain = looking_plainly(rt, scene, &entries);
+    let plain = looking_plainly(rt, scene, entries);
     let through = looking_through(rt, scene, reader);
     let few = publishing(rt, alloc, scene, writer, &probes(3, 4))?;
     let named = looking_through(rt, scene, reader);
     let many = publishing(rt, alloc, scene, writer, &probes(3, 4096))?;
     let both = withdrawing(rt, alloc, scene, writer, &probes(3, 4))?;
-    publish_others(rt, alloc, scene, &mut entries, writer)?;
-    let plain_beside = looking_plainly(rt, scene, &entries);
+    publish_others(rt, alloc, scene, entries, writer)?;
+    let plain_beside = looking_plainly(rt, scene, entries);
     let through_beside = looking_through(rt, scene, reader);
-    let few_plainly = publishing_plainly(rt, scene, &mut entries, &probes(3, 4))?;
+    let few_plainly = publishing_plainly(rt, scene, entries, &probes(3, 4))?;
     Some(Measures {
         entry,
         plain,

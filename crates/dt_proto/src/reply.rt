@@ -27,7 +27,10 @@ ghost use Rattle.dt_proto.specs.Scalars.{characters};
 use crate::text::text_of;
 use crate::written::{enabled_line, listed_line, snapped_line, status_line, table_line};
 use dt_cred::Probe;
+use dt_ecb::RestrictedAction;
+use dt_lang::{Destructive, Why};
 use dt_life::{Refusal, Reply};
+use dt_names::ShortText;
 use dt_record::{Field, Layout};
 use serde_json::{Value, json};
 use std::alloc::{AllocError, Global};
@@ -130,28 +133,51 @@ fn field_value(alloc: Global, field: Field) -> Result<Value, AllocError>
 fn refusal_value(alloc: Global, refusal: Refusal) -> Result<Value, AllocError>
     ensures { IfOk result (λ value. view value ≡ object (refusal_members refusal)) }
 {
-    let number = refusal.number();
-    let name = refusal.name();
     match refusal {
-        Refusal::Program { at, why } => {
-            json!(in alloc; {"at": at, "error": number, "name": name, "why": why.word()})
-        }
-        Refusal::Privilege { clause, what } => {
-            json!(in alloc; {"clause": clause, "error": number, "name": name, "what": what.word()})
-        }
-        Refusal::Destructive { at, what } => {
-            json!(in alloc; {"at": at, "error": number, "name": name, "what": what.name()})
-        }
-        Refusal::AggClash { what } => {
-            let what = text_of(alloc, what.as_bytes())?;
-            json!(in alloc; {"error": number, "name": name, "what": what})
-        }
-        Refusal::NoMatch { clause } => {
-            json!(in alloc; {"clause": clause, "error": number, "name": name})
-        }
+        Refusal::Program { at, why } => program_value(alloc, at, why),
+        Refusal::Privilege { clause, what } => privilege_value(alloc, clause, what),
+        Refusal::Destructive { at, what } => destructive_value(alloc, at, what),
+        Refusal::AggClash { what } => clash_value(alloc, what),
+        Refusal::NoMatch { clause } => no_match_value(alloc, clause),
         // of any other there is no more to tell
-        _ => json!(in alloc; {"error": number, "name": name}),
+        _ => json!(in alloc; {"error": refusal.number(), "name": refusal.name()}),
     }
+}
+
+fn program_value(alloc: Global, at: usize, why: Why) -> Result<Value, AllocError>
+    ensures { IfOk result (λ value. view value ≡ object (refusal_members (Refusal.Program at why))) }
+{
+    let refusal = Refusal::Program { at, why };
+    json!(in alloc; {"at": at, "error": refusal.number(), "name": refusal.name(), "why": why.word()})
+}
+
+fn privilege_value(alloc: Global, clause: u32, what: RestrictedAction) -> Result<Value, AllocError>
+    ensures { IfOk result (λ value. view value ≡ object (refusal_members (Refusal.Privilege clause what))) }
+{
+    let refusal = Refusal::Privilege { clause, what };
+    json!(in alloc; {"clause": clause, "error": refusal.number(), "name": refusal.name(), "what": what.word()})
+}
+
+fn destructive_value(alloc: Global, at: usize, what: Destructive) -> Result<Value, AllocError>
+    ensures { IfOk result (λ value. view value ≡ object (refusal_members (Refusal.Destructive at what))) }
+{
+    let refusal = Refusal::Destructive { at, what };
+    json!(in alloc; {"at": at, "error": refusal.number(), "name": refusal.name(), "what": what.name()})
+}
+
+fn clash_value(alloc: Global, what: ShortText) -> Result<Value, AllocError>
+    ensures { IfOk result (λ value. view value ≡ object (refusal_members (Refusal.AggClash what))) }
+{
+    let refusal = Refusal::AggClash { what };
+    let text = text_of(alloc, what.as_bytes())?;
+    json!(in alloc; {"error": refusal.number(), "name": refusal.name(), "what": text})
+}
+
+fn no_match_value(alloc: Global, clause: u32) -> Result<Value, AllocError>
+    ensures { IfOk result (λ value. view value ≡ object (refusal_members (Refusal.NoMatch clause))) }
+{
+    let refusal = Refusal::NoMatch { clause };
+    json!(in alloc; {"clause": clause, "error": refusal.number(), "name": refusal.name()})
 }
 
 /// Law: the texts of the replies, letter by letter. The data is that of bytes, each below 256.

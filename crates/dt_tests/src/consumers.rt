@@ -2,7 +2,7 @@
 use dt_aggfn::{AggFn, CellAnswer};
 use dt_aggstore::{Row, RowKey};
 use dt_consumer::{Consumer, Draft};
-use dt_life::{Command, OptionValue, Refusal, Reply};
+use dt_life::{Command, OptionValue, Phase, Refusal, Reply};
 use dt_machine::{Interest, Machine, PROBE_ID_MAX};
 use std::alloc::Global;
 use std::test::Fail;
@@ -192,54 +192,82 @@ fn table(alloc: Global, function: AggFn, rows: &[Row]) -> Result<String, Fail> {
 
 /// A reply as text.
 fn spelled(alloc: Global, reply: &Reply) -> Result<String, Fail> {
-    Ok(match reply {
-        Reply::Done => String::from_str(alloc, "done")?,
-        Reply::Enabled { count, first } => format!(in alloc; "{count} from {first}")?,
+    match reply {
+        Reply::Done => Ok(String::from_str(alloc, "done")?),
+        Reply::Enabled { count, first } => Ok(format!(in alloc; "{count} from {first}")?),
         Reply::Snapped {
             cpu,
             data,
             drops,
             filled,
-        } => {
-            let end = if *filled { " filled" } else { "" };
-            format!(in alloc; "{cpu}: {data:?} {drops}{end}")?
-        }
+        } => snapped(alloc, *cpu, data, *drops, *filled),
         Reply::Status {
             phase,
             seen,
             errors,
             aggdrops,
             ..
-        } => {
-            let mut text = format!(in alloc; "{phase:?} {seen}")?;
-            for count in errors {
-                text.push_str(format!(in alloc; " {count}")?.as_str())?;
-            }
-            if aggdrops.iter().any(|count| *count > 0) {
-                text.push_str(", dropped")?;
-                for count in aggdrops {
-                    text.push_str(format!(in alloc; " {count}")?.as_str())?;
-                }
-            }
-            text
-        }
-        Reply::Aggregated { function, rows, .. } => table(alloc, *function, rows)?,
+        } => status(alloc, *phase, *seen, errors, aggdrops),
+        Reply::Aggregated { function, rows, .. } => table(alloc, *function, rows),
+        Reply::Refused(refusal) => refused(alloc, *refusal),
+        Reply::Listed { .. } | Reply::Described { .. } => of_probes(alloc, reply),
+    }
+}
+
+fn snapped(alloc: Global, cpu: u32, data: &[u8], drops: u64, filled: bool) -> Result<String, Fail> {
+    let end = if filled { " filled" } else { "" };
+    Ok(format!(in alloc; "{cpu}: {data:?} {drops}{end}")?)
+}
+
+fn status(
+    alloc: Global,
+    phase: Phase,
+    seen: u64,
+    errors: &[u64],
+    aggdrops: &[u64],
+) -> Result<String, Fail> {
+    let mut text = format!(in alloc; "{phase:?} {seen}")?;
+    push_counts(alloc, &mut text, errors)?;
+    if aggdrops.iter().any(|count| *count > 0) {
+        text.push_str(", dropped")?;
+        push_counts(alloc, &mut text, aggdrops)?;
+    }
+    Ok(text)
+}
+
+fn push_counts(alloc: Global, text: &mut String, counts: &[u64]) -> Result<(), Fail> {
+    for count in counts {
+        text.push_str(format!(in alloc; " {count}")?.as_str())?;
+    }
+    Ok(())
+}
+
+fn refused(alloc: Global, refusal: Refusal) -> Result<String, Fail> {
+    Ok(format!(in alloc; "refused {} {}", refusal.number(), refusal.name())?)
+}
+
+/// A reply that has probes, as text.
+fn of_probes(alloc: Global, reply: &Reply) -> Result<String, Fail> {
+    let mut text = String::new(alloc);
+    match reply {
         Reply::Listed { probes } => {
-            let mut text = String::new(alloc);
             for probe in probes {
                 text.push_str(format!(in alloc; "{}", probe.id)?.as_str())?;
             }
-            text
         }
         Reply::Described {
             epid,
             probe,
             layout,
-        } => format!(in alloc; "{epid}: {} {} {}", probe.id, probe.tuple, layout.size())?,
-        Reply::Refused(refusal) => {
-            format!(in alloc; "refused {} {}", refusal.number(), refusal.name())?
-        }
-    })
+        } => text.push_str(format!(in alloc;
+            "{epid}: {} {} {}",
+            probe.id,
+            probe.tuple,
+            layout.size()
+        )?.as_str())?,
+        _ => {}
+    }
+    Ok(text)
 }
 
 /// An option's name and its value, which is a number or a word.
@@ -327,23 +355,34 @@ fn answered(
     text: &str,
 ) -> Result<String, Fail> {
     if let Some(numbers) = text.strip_prefix("fire ") {
-        let (cpu, place) = numbers.split_once(' ').ok_or("no place")?;
-        let seen = offered(
-            consumer,
-            machine,
-            cpu.parse::<u32>()?,
-            place.parse::<u32>()?,
-        );
-        let told = if seen.ok_or("no firing")? {
-            "seen"
-        } else {
-            "unseen"
-        };
-        return Ok(String::from_str(alloc, told)?);
+        fired(alloc, machine, consumer, numbers)
+    } else if text == "interest" {
+        interest(alloc, consumer)
+    } else {
+        asked(alloc, machine, consumer, text)
     }
-    if text == "interest" {
-        return interest(alloc, consumer);
-    }
+}
+
+/// Whether the firing at a processor's place is seen, as text.
+fn fired(
+    alloc: Global,
+    machine: &Machine,
+    consumer: &mut Consumer,
+    numbers: &str,
+) -> Result<String, Fail> {
+    let (cpu, place) = numbers.split_once(' ').ok_or("no place")?;
+    let (cpu, place) = (cpu.parse::<u32>()?, place.parse::<u32>()?);
+    let seen = offered(consumer, machine, cpu, place).ok_or("no firing")?;
+    Ok(String::from_str(alloc, if seen { "seen" } else { "unseen" })?)
+}
+
+/// What a line is answered.
+fn asked(
+    alloc: Global,
+    machine: &Machine,
+    consumer: &mut Consumer,
+    text: &str,
+) -> Result<String, Fail> {
     let line: Result<Command, Refusal> = Ok(command(alloc, text)?);
     let draft = consumer.draft(alloc, machine, &line)?;
     let told = told(alloc, &draft)?;

@@ -50,12 +50,9 @@ fn compares<J: Site, R: Wait + Abort>(
     let mut reader = reader?;
     let mut beside = Beside::new(alloc)?;
     for number in 0..WRITES {
-        let write = write_numbered(alloc, machine, number)?;
-        beside.writes(rt, writer, &mut reader, write)?;
-        name_alike(rt, machine, &beside.entries, &mut reader, beside.count)?;
+        beside.goes_on(rt, alloc, machine, writer, &mut reader, number)?;
     }
-    assert_eq!(rt; told(rt, writer, &mut reader), beside.count);
-    Ok(())
+    beside.ends(rt, writer, &mut reader)
 }
 
 /// Plain `Entries` beside the chains: how many writes they had, the one that the chains refused last, and whether they refused any.
@@ -77,6 +74,32 @@ impl Beside {
             refused: None,
             was_refused: false,
         })
+    }
+
+    /// The write of a number, and looks after it.
+    fn goes_on<J: Site, R: Wait + Abort>(
+        &mut self,
+        rt: &R,
+        alloc: Global,
+        machine: &Machine,
+        writer: &Mutex<ChainWriter<J>>,
+        reader: &mut ChainReader<J>,
+        number: u64,
+    ) -> Result<(), Fail> {
+        let write = write_numbered(alloc, machine, number)?;
+        self.writes(rt, writer, reader, write)?;
+        name_alike(rt, machine, &self.entries, reader, self.count)
+    }
+
+    /// Both had as many writes.
+    fn ends<J: Site, R: Wait + Abort>(
+        &self,
+        rt: &R,
+        writer: &Mutex<ChainWriter<J>>,
+        reader: &mut ChainReader<J>,
+    ) -> Result<(), Fail> {
+        assert_eq!(rt; told(rt, writer, reader), self.count);
+        Ok(())
     }
 
     /// A write to the chains, and to the `Entries` if the chains have it.

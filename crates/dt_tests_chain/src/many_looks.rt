@@ -52,24 +52,31 @@ fn looks_beside_a_writer<J: Site + Send + Sync, R: Threads + Wait + Abort + Sync
     requires { chains ≡ J.book }
 {
     let writer = chains.writer::<J>(alloc, 2)?;
-    let one = writer.reader();
-    let other = writer.reader();
+    let readers = both(writer.reader(), writer.reader());
     let writer = Mutex::new(writer);
-    let result = three_threads(rt, alloc, scene, &writer, one, other);
+    let result = match readers {
+        Ok((one, other)) => three_threads(rt, alloc, scene, &writer, one, other),
+        Err(fault) => Err(fault),
+    };
     writer.into_inner().end(rt);
     result
 }
+
+/// Two readers, if there were both.
+fn both<J: Site>(one: Made<J>, other: Made<J>) -> Result<(ChainReader<J>, ChainReader<J>), Fail> {
+    Ok((one?, other?))
+}
+
+type Made<J> = Result<ChainReader<J>, AllocError>;
 
 fn three_threads<J: Site + Send + Sync, R: Threads + Wait + Abort + Sync>(
     rt: &R,
     alloc: Global,
     scene: &Scene,
     writer: &Mutex<ChainWriter<J>>,
-    one: Result<ChainReader<J>, AllocError>,
-    other: Result<ChainReader<J>, AllocError>,
+    one: ChainReader<J>,
+    other: ChainReader<J>,
 ) -> Result<(), Fail> {
-    let one = one?;
-    let other = other?;
     let (count, (one, other)) = join(
         rt,
         || publishes(rt, alloc, scene, writer),

@@ -4,7 +4,7 @@ ghost use Rattle.std.specs.Prelude.{◌≡◌, ◌<◌, ◌^◌};
 use crate::calls::{
     firing, life_of, looked, looked_anew, machine, published, seat_numbered, told, withdrawn,
 };
-use dt_chain::{ChainReader, ChainWriter, Chains, SeatMask, Site, Write};
+use dt_chain::{ChainReader, ChainWriter, Chains, Seat, SeatMask, Site, Write};
 use dt_machine::{Interest, Machine};
 use std::alloc::{AllocError, Global};
 use std::marker::Brand;
@@ -31,15 +31,28 @@ fn ends<J: Site, R: Wait + Abort>(
     requires { chains ≡ J.book }
 {
     let writer = chains.writer::<J>(alloc, 1)?;
+    let again = one_after_the_other(rt, &writer);
+    let writer = Mutex::new(writer);
+    let looked_before = looks_once(rt, alloc, machine, &writer, again);
+    writer.into_inner().end(rt);
+    looks_in_vain(rt, machine, looked_before?)
+}
+
+/// The reader after one that was dropped, beside which there was no further one.
+fn one_after_the_other<J: Site>(rt: &impl Abort, writer: &ChainWriter<J>) -> Made<J> {
     let one = writer.reader();
     let too_many = writer.reader();
     assert!(rt; one.is_ok() && too_many.is_err());
     drop(one);
-    let again = writer.reader();
-    let writer = Mutex::new(writer);
-    let looked_before = looks_once(rt, alloc, machine, &writer, again);
-    writer.into_inner().end(rt);
-    let mut reader = looked_before?;
+    writer.reader()
+}
+
+/// Each look is refused.
+fn looks_in_vain<J: Site>(
+    rt: &impl Abort,
+    machine: &Machine,
+    mut reader: ChainReader<J>,
+) -> Result<(), Fail> {
     let firing = firing(machine, 0)?;
     let mut mask = SeatMask::new();
     let seen = looked(&mut reader, machine, &firing, &mut mask);
@@ -87,9 +100,7 @@ fn fills<J: Site>(
 ) -> Result<(), Fail> {
     let mut kept = Vec::with_capacity(alloc, readers)?;
     for _ in 0..readers {
-        let reader = writer.reader();
-        assert!(rt; reader.is_ok());
-        kept.push(reader?)?;
+        kept.push(writer.reader()?)?;
     }
     let too_many = writer.reader();
     assert!(rt; too_many.is_err());
@@ -105,22 +116,44 @@ fn looks_once<J: Site, R: Wait + Abort>(
     reader: Made<J>,
 ) -> Result<ChainReader<J>, Fail> {
     let mut reader = reader?;
-    let firing = firing(machine, 0)?;
+    let seat = seat_numbered(255)?;
+    published(rt, writer, publication(alloc, machine, seat)?)?;
+    names_the_last(rt, machine, writer, &mut reader)?;
+    withdrawn(rt, writer, seat)?;
+    names_nobody(rt, machine, &mut reader)?;
+    Ok(reader)
+}
+
+/// A publication of interest in probe 3, in life 7.
+fn publication(alloc: Global, machine: &Machine, seat: Seat) -> Result<Write, Fail> {
     let account = machine.account(b"root").ok_or("no account")?;
     let mut interest = Interest::new();
     interest.insert(3);
-    let seat = seat_numbered(255)?;
-    published(
-        rt,
-        writer,
-        Write::publication(alloc, seat, 7, account, &interest)?,
-    )?;
-    let all = told(rt, writer, &mut reader);
-    assert_eq!(rt; all, 1);
-    let mask = looked_anew(&mut reader, machine, &firing).ok_or("a look was refused")?;
+    Ok(Write::publication(alloc, seat, 7, account, &interest)?)
+}
+
+/// One write is published, and a look names the last seat.
+fn names_the_last<J: Site, R: Wait + Abort>(
+    rt: &R,
+    machine: &Machine,
+    writer: &Mutex<ChainWriter<J>>,
+    reader: &mut ChainReader<J>,
+) -> Result<(), Fail> {
+    assert_eq!(rt; told(rt, writer, reader), 1);
+    let firing = firing(machine, 0)?;
+    let mask = looked_anew(reader, machine, &firing).ok_or("a look was refused")?;
     assert!(rt; life_of(&mask, 255) == Some(7) && life_of(&mask, 0).is_none());
-    withdrawn(rt, writer, seat)?;
-    let mask = looked_anew(&mut reader, machine, &firing).ok_or("a look was refused")?;
+    Ok(())
+}
+
+/// A look names no seat.
+fn names_nobody<J: Site>(
+    rt: &impl Abort,
+    machine: &Machine,
+    reader: &mut ChainReader<J>,
+) -> Result<(), Fail> {
+    let firing = firing(machine, 0)?;
+    let mask = looked_anew(reader, machine, &firing).ok_or("a look was refused")?;
     assert!(rt; mask.is_empty());
-    Ok(reader)
+    Ok(())
 }

@@ -43,19 +43,44 @@ fn both_are_seen<J: Site, R: Wait + Abort>(
     reader: Result<ChainReader<J>, AllocError>,
 ) -> Result<(), Fail> {
     let mut reader = reader?;
+    let first = publishes(rt, alloc, machine, writer, 1)?;
+    has_writes(rt, writer, &mut reader, u64::from(first.is_ok()));
+    publishes(rt, alloc, machine, writer, 2)??;
+    has_writes(rt, writer, &mut reader, 2);
+    names_both(rt, machine, &mut reader)
+}
+
+/// Publishes at the seat of a number, and answers whether it was refused for memory.
+fn publishes<J: Site, R: Wait>(
+    rt: &R,
+    alloc: Global,
+    machine: &Machine,
+    writer: &Mutex<ChainWriter<J>>,
+    number: u32,
+) -> Result<Result<(), AllocError>, Fail> {
     let account = machine.account(b"root").ok_or("no account")?;
-    let one = publication(alloc, 1, account)?;
-    let first = published(rt, writer, one);
-    let other = publication(alloc, 2, account)?;
-    let count = told(rt, writer, &mut reader);
-    assert_eq!(rt; count, u64::from(first.is_ok()));
-    published(rt, writer, other)?;
-    let count = told(rt, writer, &mut reader);
-    assert_eq!(rt; count, 2);
+    Ok(published(rt, writer, publication(alloc, number, account)?))
+}
+
+/// So many writes are published.
+fn has_writes<J: Site, R: Wait + Abort>(
+    rt: &R,
+    writer: &Mutex<ChainWriter<J>>,
+    reader: &mut ChainReader<J>,
+    count: u64,
+) {
+    assert_eq!(rt; told(rt, writer, reader), count);
+}
+
+/// A look finds both writes, and names both seats.
+fn names_both<J: Site>(
+    rt: &impl Abort,
+    machine: &Machine,
+    reader: &mut ChainReader<J>,
+) -> Result<(), Fail> {
     let firing = firing(machine, 0)?;
     let mut mask = SeatMask::new();
-    let seen = looked(&mut reader, machine, &firing, &mut mask);
-    assert_eq!(rt; seen, Some(2));
+    assert_eq!(rt; looked(reader, machine, &firing, &mut mask), Some(2));
     assert!(rt; life_of(&mask, 1) == Some(1) && life_of(&mask, 2) == Some(2));
     Ok(())
 }

@@ -1,5 +1,5 @@
 //! Worked rows: which ECBs a program adds, or for what it is refused, and what is listed.
-use dt_ecb::{Ecb, EnableFault, Shapes, enable, listed};
+use dt_ecb::{Ecb, EnableFault, RestrictedAction, Shapes, enable, listed};
 use dt_expr::{Expr, Text};
 use dt_lang::{
     AggregationUse, Argument, Bounds, CLAUSES_MAX, Call, Clause, DESCRIPTIONS_MAX, Description,
@@ -130,44 +130,42 @@ fn call(function: &str) -> Result<Call, Fail> {
 /// A statement: an action, or a function, an aggregation's name and the kinds of its keys.
 fn statement(alloc: Global, text: &str) -> Result<Statement, Fail> {
     let (word, rest) = text.split_once(',').unwrap_or((text, ""));
-    Ok(match word {
-        "trace" => Statement::Trace(Argument::Number(ZERO)),
-        "stack" => Statement::Stack(Frames { count: 2 }),
-        "exit" => Statement::Exit(ZERO),
-        _ => {
-            let (name, kinds) = rest.split_once(',').unwrap_or((rest, ""));
-            let mut keys = Vec::new(alloc);
-            for kind in kinds.split(',') {
-                if kind != "" {
-                    keys.push(key(kind)?)?;
-                }
-            }
-            if keys.len() > KEYS_MAX {
-                return Err("too many keys".into());
-            }
-            let name = ShortText::new(name.as_bytes()).ok_or("no name")?;
-            Statement::Aggregate(AggregationUse {
-                name,
-                keys,
-                call: call(word)?,
-            })
+    match word {
+        "trace" => Ok(Statement::Trace(Argument::Number(ZERO))),
+        "stack" => Ok(Statement::Stack(Frames { count: 2 })),
+        "exit" => Ok(Statement::Exit(ZERO)),
+        _ => aggregate(alloc, word, rest),
+    }
+}
+
+/// A statement that gives to an aggregation.
+fn aggregate(alloc: Global, function: &str, rest: &str) -> Result<Statement, Fail> {
+    let (name, kinds) = rest.split_once(',').unwrap_or((rest, ""));
+    let name = ShortText::new(name.as_bytes()).ok_or("no name")?;
+    let call = call(function)?;
+    let keys = keys(alloc, kinds)?;
+    if keys.len() > KEYS_MAX {
+        return Err("too many keys".into());
+    }
+    Ok(Statement::Aggregate(AggregationUse { name, keys, call }))
+}
+
+/// Keys of these kinds, which stand between commas.
+fn keys(alloc: Global, kinds: &str) -> Result<Vec<Argument>, Fail> {
+    let mut keys = Vec::new(alloc);
+    for kind in kinds.split(',') {
+        if kind != "" {
+            keys.push(key(kind)?)?;
         }
-    })
+    }
+    Ok(keys)
 }
 
 /// A clause: descriptions with `,` between them, and statements with `;` between them.
 fn clause(alloc: Global, text: &str) -> Result<Clause, Fail> {
     let (head, body) = text.split_once(' ').unwrap_or((text, ""));
-    let mut descriptions = Vec::new(alloc);
-    for word in head.split(',') {
-        descriptions.push(description(word).ok_or("no description")?)?;
-    }
-    let mut statements = Vec::new(alloc);
-    for word in body.split(';') {
-        if word != "" {
-            statements.push(statement(alloc, word)?)?;
-        }
-    }
+    let descriptions = descriptions(alloc, head)?;
+    let statements = statements(alloc, body)?;
     if descriptions.is_empty() || descriptions.len() > DESCRIPTIONS_MAX {
         return Err("no head".into());
     }
@@ -179,6 +177,24 @@ fn clause(alloc: Global, text: &str) -> Result<Clause, Fail> {
         predicate: None,
         statements,
     })
+}
+
+fn descriptions(alloc: Global, head: &str) -> Result<Vec<Description>, Fail> {
+    let mut descriptions = Vec::new(alloc);
+    for word in head.split(',') {
+        descriptions.push(description(word).ok_or("no description")?)?;
+    }
+    Ok(descriptions)
+}
+
+fn statements(alloc: Global, body: &str) -> Result<Vec<Statement>, Fail> {
+    let mut statements = Vec::new(alloc);
+    for word in body.split(';') {
+        if word != "" {
+            statements.push(statement(alloc, word)?)?;
+        }
+    }
+    Ok(statements)
 }
 
 fn parsed(alloc: Global, text: &str) -> Result<Program, Fail> {
@@ -199,11 +215,7 @@ fn program(alloc: Global, text: &str) -> Result<Program, Fail> {
     let times = times.parse::<u32>().ok().ok_or("no number")?;
     let mut clauses = Vec::new(alloc);
     for time in 0..times {
-        let number = format!(in alloc; "{time}")?;
-        for part in text.split(" / ") {
-            let part = part.replace(alloc, "#", number.as_str())?;
-            clauses.push(clause(alloc, part.as_str())?)?;
-        }
+        push_clauses(alloc, &mut clauses, text, time)?;
     }
     if clauses.is_empty() || clauses.len() > CLAUSES_MAX {
         return Err("no program".into());
@@ -211,19 +223,44 @@ fn program(alloc: Global, text: &str) -> Result<Program, Fail> {
     Ok(Program { clauses })
 }
 
-/// ECBs as text.
+/// Adds the clauses of a text, where `#` is how many times went before.
+fn push_clauses(
+    alloc: Global,
+    clauses: &mut Vec<Clause>,
+    text: &str,
+    time: u32,
+) -> Result<(), Fail> {
+    let number = format!(in alloc; "{time}")?;
+    for part in text.split(" / ") {
+        let part = part.replace(alloc, "#", number.as_str())?;
+        clauses.push(clause(alloc, part.as_str())?)?;
+    }
+    Ok(())
+}
+
+/// ECBs as text; of more than eight, how many, the first and the last.
 fn spelled(alloc: Global, ecbs: &[Ecb]) -> Result<String, Fail> {
+    let text = each_spelled(alloc, ecbs)?;
+    if ecbs.len() > 8 {
+        shortened(alloc, ecbs.len(), text.as_str())
+    } else {
+        Ok(text)
+    }
+}
+
+fn each_spelled(alloc: Global, ecbs: &[Ecb]) -> Result<String, Fail> {
     let mut text = String::new(alloc);
     for ecb in ecbs {
         let one = format!(in alloc; " {}:{}:{}", ecb.epid, ecb.probe, ecb.clause)?;
         text.push_str(one.as_str())?;
     }
-    if ecbs.len() > 8 {
-        let first = text.split(' ').nth(1).unwrap_or("");
-        let last = text.rsplit(' ').next().unwrap_or("");
-        return Ok(format!(in alloc; " {} from {first} to {last}", ecbs.len())?);
-    }
     Ok(text)
+}
+
+fn shortened(alloc: Global, count: usize, text: &str) -> Result<String, Fail> {
+    let first = text.split(' ').nth(1).unwrap_or("");
+    let last = text.rsplit(' ').next().unwrap_or("");
+    Ok(format!(in alloc; " {count} from {first} to {last}")?)
 }
 
 /// What a program is answered.
@@ -255,18 +292,22 @@ fn enabled(
 
 /// A refusal as text.
 fn refusal(alloc: Global, fault: &EnableFault) -> Result<String, Fail> {
-    Ok(match fault {
-        EnableFault::Privilege { clause, what } => {
-            format!(in alloc; " Privilege {clause} {what}")?
-        }
-        EnableFault::AggClash { what } => {
-            let name = str::from_utf8(what.as_bytes()).ok().ok_or("no name")?;
-            format!(in alloc; " AggClash {name}")?
-        }
-        EnableFault::NoMatch { clause } => format!(in alloc; " NoMatch {clause}")?,
-        EnableFault::Limit => String::from_str(alloc, " Limit")?,
-        EnableFault::Memory => return Err("out of memory".into()),
-    })
+    match fault {
+        EnableFault::Privilege { clause, what } => privilege(alloc, *clause, *what),
+        EnableFault::AggClash { what } => clash(alloc, what),
+        EnableFault::NoMatch { clause } => Ok(format!(in alloc; " NoMatch {clause}")?),
+        EnableFault::Limit => Ok(String::from_str(alloc, " Limit")?),
+        EnableFault::Memory => Err("out of memory".into()),
+    }
+}
+
+fn privilege(alloc: Global, clause: u32, what: RestrictedAction) -> Result<String, Fail> {
+    Ok(format!(in alloc; " Privilege {clause} {what}")?)
+}
+
+fn clash(alloc: Global, what: &ShortText) -> Result<String, Fail> {
+    let name = str::from_utf8(what.as_bytes()).ok().ok_or("no name")?;
+    Ok(format!(in alloc; " AggClash {name}")?)
 }
 
 /// The identifiers of the probes that are listed.

@@ -2,7 +2,7 @@
 use arrayvec::ArrayVec;
 use dt_cred::{Mode, Probe, Process};
 use dt_expr::{Scene, Value};
-use dt_lang::{ParseProgram, Program};
+use dt_lang::{Clause, ParseProgram, Program};
 use dt_locals::Locals;
 use dt_machine::Firing;
 use dt_names::{ProbeTuple, ShortText};
@@ -58,16 +58,23 @@ fn words_of(alloc: Global, left: &Taken) -> Result<String, Fail> {
     if let Some(id) = left.spec {
         words.push_str(&format!(in alloc; " spec {id}")?)?;
     }
-    for end in left.ends.as_slice() {
-        match end {
-            SpecEnd::Commit(id) => words.push_str(&format!(in alloc; " commit {id}")?)?,
-            SpecEnd::Discard(id) => words.push_str(&format!(in alloc; " discard {id}")?)?,
-        }
-    }
+    push_ends(alloc, &mut words, left.ends.as_slice())?;
     if let Some(status) = left.exit {
         words.push_str(&format!(in alloc; " exit {status}")?)?;
     }
     Ok(words)
+}
+
+/// Adds the speculations that are ended, in the words of the table.
+fn push_ends(alloc: Global, words: &mut String, ends: &[SpecEnd]) -> Result<(), Fail> {
+    for end in ends {
+        let one = match end {
+            SpecEnd::Commit(id) => format!(in alloc; " commit {id}")?,
+            SpecEnd::Discard(id) => format!(in alloc; " discard {id}")?,
+        };
+        words.push_str(&one)?;
+    }
+    Ok(())
 }
 
 /// Adds the numbers that are given, in the words of the table.
@@ -136,26 +143,53 @@ fn told_bare(
     room: &mut BareRoom,
 ) -> Result<Option<String>, Fail> {
     let program = parsed(alloc, text)?;
-    let locals = Locals::new(alloc, 64)?;
     let clause = program.clauses.first().ok_or("no clause")?;
-    let (held, words) = if only_records(clause) {
-        room.recording = room.recording.saturating_add(1);
-        let held = record_only(&mut room.record, 5, clause, scene, &locals);
-        (held, digits_of(alloc, room.record.as_slice())?)
+    if only_records(clause) {
+        Ok(Some(told_record(alloc, clause, scene, room)?))
     } else if only_gives(clause) {
-        room.giving = room.giving.saturating_add(1);
-        let held = give_only(&mut room.values, clause, scene, &locals);
-        let mut words = String::from_str(alloc, "-")?;
-        push_given(alloc, &mut words, room.values.as_slice())?;
-        (held, words)
+        Ok(Some(told_given(alloc, clause, scene, room)?))
     } else {
-        return Ok(None);
-    };
-    Ok(Some(match held {
-        Ok(true) => words,
-        Ok(false) => String::from_str(alloc, "passed")?,
-        Err(_) => String::from_str(alloc, "fault")?,
-    }))
+        Ok(None)
+    }
+}
+
+/// What a clause leaves that does nothing but record.
+fn told_record(
+    alloc: Global,
+    clause: &Clause,
+    scene: &Scene,
+    room: &mut BareRoom,
+) -> Result<String, Fail> {
+    let locals = Locals::new(alloc, 64)?;
+    room.recording = room.recording.saturating_add(1);
+    match record_only(&mut room.record, 5, clause, scene, &locals) {
+        Ok(true) => digits_of(alloc, room.record.as_slice()),
+        Ok(false) => Ok(String::from_str(alloc, "passed")?),
+        Err(_) => Ok(String::from_str(alloc, "fault")?),
+    }
+}
+
+/// What a clause leaves that does nothing but give.
+fn told_given(
+    alloc: Global,
+    clause: &Clause,
+    scene: &Scene,
+    room: &mut BareRoom,
+) -> Result<String, Fail> {
+    let locals = Locals::new(alloc, 64)?;
+    room.giving = room.giving.saturating_add(1);
+    match give_only(&mut room.values, clause, scene, &locals) {
+        Ok(true) => given(alloc, room.values.as_slice()),
+        Ok(false) => Ok(String::from_str(alloc, "passed")?),
+        Err(_) => Ok(String::from_str(alloc, "fault")?),
+    }
+}
+
+/// No record, and the numbers that are given, in the words of the table.
+fn given(alloc: Global, values: &[Value]) -> Result<String, Fail> {
+    let mut words = String::from_str(alloc, "-")?;
+    push_given(alloc, &mut words, values)?;
+    Ok(words)
 }
 
 /// The first line of the table that does not hold by the way of such clauses.

@@ -60,21 +60,33 @@ fn shows(rt: &impl Abort, alloc: Global, asked: &str, wanted: &str) -> Result<()
     Ok(())
 }
 
-/// The line's buffer after what its words say, and how long each put's record was. It compares what each is answered.
+/// The line's buffer after what its words say, and how long each put's record was.
 fn played(rt: &impl Abort, alloc: Global, asked: &str) -> Result<(Principal, Vec<usize>), Fail> {
     let mut words = asked.split_whitespace();
     let mut buffer = buffer_of(alloc, &mut words)?;
     let mut lengths = Vec::new(alloc);
     for word in words {
-        if word == "s" {
-            swap(&mut buffer);
-        } else {
-            lengths.push(digits(word))?;
-            let found = put(&mut buffer, lengths.len(), word).ok_or("no put")?;
-            assert!(rt; word.ends_with(found), "{word} in {asked}");
-        }
+        plays(rt, &mut buffer, &mut lengths, asked, word)?;
     }
     Ok((buffer, lengths))
+}
+
+/// Does what a word says, and compares what that is answered.
+fn plays(
+    rt: &impl Abort,
+    buffer: &mut Principal,
+    lengths: &mut Vec<usize>,
+    asked: &str,
+    word: &str,
+) -> Result<(), Fail> {
+    if word == "s" {
+        swap(buffer);
+        return Ok(());
+    }
+    lengths.push(digits(word))?;
+    let found = put(buffer, lengths.len(), word).ok_or("no put")?;
+    assert!(rt; word.ends_with(found), "{word} in {asked}");
+    Ok(())
 }
 
 /// Compares a buffer's content.
@@ -167,14 +179,24 @@ fn kept(alloc: Global, lengths: &[usize], places: &str) -> Result<(Vec<u8>, Vec<
     let mut bytes = Vec::new(alloc);
     let mut kept = Vec::new(alloc);
     for place in places.split(',') {
-        let place = digits(place);
-        if let Some(length) = lengths.get(place.wrapping_sub(1)) {
-            let record = record(place).ok_or("no place")?;
-            bytes.extend_from_slice(record.get(..*length).ok_or("too long")?)?;
-            kept.push(u32::try_from(*length)?)?;
-        }
+        keeps(lengths, digits(place), &mut bytes, &mut kept)?;
     }
     Ok((bytes, kept))
+}
+
+/// Adds the bytes and the length of the record at a place among the puts, if there is one.
+fn keeps(
+    lengths: &[usize],
+    place: usize,
+    bytes: &mut Vec<u8>,
+    kept: &mut Vec<u32>,
+) -> Result<(), Fail> {
+    if let Some(length) = lengths.get(place.wrapping_sub(1)) {
+        let record = record(place).ok_or("no place")?;
+        bytes.extend_from_slice(record.get(..*length).ok_or("too long")?)?;
+        kept.push(u32::try_from(*length)?)?;
+    }
+    Ok(())
 }
 
 /// The number that the digits of a word write.

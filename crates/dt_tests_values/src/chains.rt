@@ -4,6 +4,7 @@ use dt_cred::Account;
 use dt_machine::{Firing, Interest, Machine, PROBE_ID_MAX};
 use std::alloc::Global;
 use std::process::Abort;
+use std::str::SplitWhitespace;
 use std::test::Fail;
 
 /// Probes 1 and 2 are `BEGIN` and `END`, those of the file have 3 to 6; the firings of processor 0 are numbered from
@@ -61,32 +62,50 @@ fn plays(rt: &impl Abort, alloc: Global, machine: &Machine, line: &str) -> Resul
     while let Some(word) = words.next() {
         let first = words.next().ok_or("no word")?;
         match word {
-            "+" => {
-                let life = first_number(words.next())?;
-                let account = machine
-                    .account(words.next().ok_or("no account")?.as_bytes())
-                    .ok_or("no account")?;
-                let interest = interest_of(words.next().ok_or("no probes")?)?;
-                published(
-                    alloc,
-                    &mut entries,
-                    seat_of(first)?,
-                    life,
-                    account,
-                    &interest,
-                )?;
-            }
+            "+" => publishes(alloc, machine, &mut entries, first, &mut words)?,
             "-" => withdrawn(&mut entries, seat_of(first)?)?,
-            _ => {
-                let firing = firing_of(machine, first)?;
-                let wanted = words.next();
-                looked_into(&entries, machine, &firing, &mut lent);
-                for mask in [looked(&entries, machine, &firing), lent] {
-                    let named = named(rt, alloc, mask)?;
-                    assert!(rt; Some(named.as_str()) == wanted, "{first} in {line}");
-                }
-            }
+            _ => looks(
+                rt,
+                alloc,
+                machine,
+                &entries,
+                &mut lent,
+                (line, first, words.next()),
+            )?,
         }
+    }
+    Ok(())
+}
+
+/// Publishes at a seat what the next words say.
+fn publishes(
+    alloc: Global,
+    machine: &Machine,
+    entries: &mut Entries,
+    seat: &str,
+    words: &mut SplitWhitespace,
+) -> Result<(), Fail> {
+    let life = first_number(words.next())?;
+    let name = words.next().ok_or("no account")?;
+    let account = machine.account(name.as_bytes()).ok_or("no account")?;
+    let interest = interest_of(words.next().ok_or("no probes")?)?;
+    published(alloc, entries, seat_of(seat)?, life, account, &interest)
+}
+
+/// Looks at the firing of a line's word in both ways, and compares what is named.
+fn looks(
+    rt: &impl Abort,
+    alloc: Global,
+    machine: &Machine,
+    entries: &Entries,
+    lent: &mut SeatMask,
+    (line, word, wanted): (&str, &str, Option<&str>),
+) -> Result<(), Fail> {
+    let firing = firing_of(machine, word)?;
+    looked_into(entries, machine, &firing, lent);
+    for mask in [looked(entries, machine, &firing), *lent] {
+        let named = named(rt, alloc, mask)?;
+        assert!(rt; Some(named.as_str()) == wanted, "{word} in {line}");
     }
     Ok(())
 }

@@ -18,16 +18,14 @@ fn aligns_descriptions_from_the_right(rt: HostRuntime) {
         (NAME_63, [b"", b"", b"", NAME_63]),
     ];
     for (text, want) in rows {
-        match parsed(text) {
-            Err(fault) => panic!(rt; "{text:?} is refused: {fault}"),
-            Ok(desc) => {
-                assert!(rt; desc.provider == want[0], "the provider of {text:?}");
-                assert!(rt; desc.module == want[1], "the module of {text:?}");
-                assert!(rt; desc.function == want[2], "the function of {text:?}");
-                assert!(rt; desc.name == want[3], "the name of {text:?}");
-            }
-        }
+        assert!(rt; fields(text) == Some(want), "{text:?}");
     }
+}
+
+/// The provider, module, function and name of a description that isn't refused.
+fn fields(text: &[u8]) -> Option<[&[u8]; 4]> {
+    let read = parsed(text).ok()?;
+    Some([read.provider, read.module, read.function, read.name])
 }
 
 fn parsed(text: &[u8]) -> Result<ProbeDesc<'_>, NameFault> {

@@ -62,28 +62,34 @@ fn shows(rt: &impl Abort, alloc: Global, line: &str) -> Result<(), Fail> {
     let room = words.next().unwrap_or("0").parse().unwrap_or(0);
     let mut locals = locals(alloc, room)?;
     for word in words {
-        if let Some(drops) = word.strip_prefix('~') {
-            assert!(rt;
-                locals.drops() == drops.parse().unwrap_or(0),
-                "{word} in {line}"
-            );
-        } else if let Some((variable, value)) = word.split_once('?') {
-            let (pid, tid, name) = variable_of(variable)?;
-            assert!(rt;
-                locals.get(pid, tid, &name) == number(value),
-                "{word} in {line}"
-            );
-        } else if let Some((variable, value)) = word.split_once('=') {
-            let (pid, tid, name) = variable_of(variable)?;
-            let (given, has_room) = match value.strip_suffix('k') {
-                Some(given) => (given, true),
-                None => (value.strip_suffix('d').ok_or("no answer")?, false),
-            };
-            let kept = set(&mut locals, pid, tid, &name, number(given));
-            assert!(rt; kept == Some(has_room), "{word} in {line}");
-        }
+        says(rt, &mut locals, line, word)?;
     }
     Ok(())
+}
+
+/// Does what a word says, or compares what it says.
+fn says(rt: &impl Abort, locals: &mut Locals, line: &str, word: &str) -> Result<(), Fail> {
+    let holds = if let Some(drops) = word.strip_prefix('~') {
+        locals.drops() == drops.parse().unwrap_or(0)
+    } else if let Some((variable, value)) = word.split_once('?') {
+        let (pid, tid, name) = variable_of(variable)?;
+        locals.get(pid, tid, &name) == number(value)
+    } else {
+        assigns(locals, word)?
+    };
+    assert!(rt; holds, "{word} in {line}");
+    Ok(())
+}
+
+/// Assigns what a word says, and tells whether that is answered what it says.
+fn assigns(locals: &mut Locals, word: &str) -> Result<bool, Fail> {
+    let (variable, value) = word.split_once('=').ok_or("no word")?;
+    let (pid, tid, name) = variable_of(variable)?;
+    let (given, has_room) = match value.strip_suffix('k') {
+        Some(given) => (given, true),
+        None => (value.strip_suffix('d').ok_or("no answer")?, false),
+    };
+    Ok(set(locals, pid, tid, &name, number(given)) == Some(has_room))
 }
 
 /// The variable that a word names.

@@ -60,25 +60,36 @@ fn many_keys_come_in_order(rt: HostRuntime) -> Result<(), Fail> {
     let aggregation = aggregation_of("1:sum").ok_or("aggregation")?;
     let mut stores = [store(alloc, 2400)?, store(alloc, 2400)?];
     for store in stores.iter_mut() {
-        for n in 0..101_i64 {
-            let number = n.wrapping_mul(37) % 101;
-            let kept = give(store, aggregation, &number_key(number), number);
-            assert!(rt; kept == Some(n < 100));
-        }
+        assert!(rt; is_filled(store, aggregation));
     }
     let rows = rows(alloc, &stores, aggregation)?;
     assert!(rt; rows.len() == 100);
     for (place, row) in rows.iter().enumerate() {
-        // 64 came last, and was dropped.
-        let number = if place < 64 {
-            place
-        } else {
-            place.wrapping_add(1)
-        };
-        let expected = format!(in alloc; "{number}:{}", number.wrapping_mul(2))?;
-        assert!(rt; row_text(alloc, row)? == expected);
+        assert!(rt; is_row_at(alloc, place, row)?);
     }
     Ok(())
+}
+
+/// Gives a hundred keys to a store and one more, and tells whether it has room for these hundred.
+fn is_filled(store: &mut AggStore, aggregation: Aggregation) -> bool {
+    let mut is_filled = true;
+    for n in 0..101_i64 {
+        let number = n.wrapping_mul(37) % 101;
+        is_filled = is_filled && give(store, aggregation, &number_key(number), number) == Some(n < 100);
+    }
+    is_filled
+}
+
+/// Whether a row is the one at this place, where each key was given twice.
+fn is_row_at(alloc: Global, place: usize, row: &Row) -> Result<bool, Fail> {
+    // 64 came last, and was dropped.
+    let number = if place < 64 {
+        place
+    } else {
+        place.wrapping_add(1)
+    };
+    let expected = format!(in alloc; "{number}:{}", number.wrapping_mul(2))?;
+    Ok(row_text(alloc, row)? == expected)
 }
 
 /// Makes the line's stores, does what its words say and compares what is shown.

@@ -32,12 +32,12 @@ use input::watch_input;
 use judging::judge_machine;
 use learning::Learnt;
 use listing::list_probes;
-use output::{create_output, reason_of, tell_path, write_answer, write_out};
+use output::{create_output, reason_of, tell_path, write_answer};
 use page::{Terminals, Widths, widths_of};
 use reading::Readings;
 use session::Session;
 use snapping::RowShape;
-use std::io::{IsTerminal, Stdin};
+use std::io::{IsTerminal, Stdin, Write};
 use std::net::Net;
 use std::os::unix::net::UnixStream;
 use std::process::ExitCode;
@@ -46,7 +46,7 @@ use std::thread::Threads;
 use std::time::Duration;
 use std::{env, fs};
 use streams::hold_streams;
-use summing::push_table;
+use summing::push_tables;
 use words::{Invocation, USAGE, tell_words};
 
 fn main(rt: HostRuntime) -> ExitCode {
@@ -182,29 +182,41 @@ fn trace<R: Files + Print + Eprint + AllocGlobal + Clock + Threads>(
     let aggregations = readings.aggregations(alloc)?;
     let records = readings.may_record();
     let count = set_up(rt, session, shape.widths.messages, words, programs)?;
-    let policy = policy_in(&words.options);
-    let mut known = Learnt::new(alloc, count, policy == "switch", readings)?;
+    let switched = policy_in(&words.options) == "switch";
+    let mut known = Learnt::new(alloc, count, switched, readings)?;
     // stop, status and close come beside the aggregations
     session.kept = (aggregations.len() as u64).saturating_add(4);
     let mut file = create_output(rt, words.output)?;
     begin(rt, session, count)?;
-    let ended = watch_input(rt, alloc, input)?;
+    let exit = go_on(
+        rt, input, session, words, shape, records, &mut known, &mut file,
+    )?;
+    push_tables(rt, session, &aggregations, shape, &mut file)?;
+    let _closed = session.ask(alloc, "{\"cmd\":\"close\"}")?;
+    Ok(status_of_exit(exit))
+}
+
+/// Follows what is traced until that ends, and gives the number with which a clause exited, where one did.
+fn go_on<R: Print + Eprint + AllocGlobal + Clock + Threads, F: Write>(
+    rt: &R,
+    input: Stdin,
+    session: &mut Session<'_>,
+    words: &Invocation<'_>,
+    shape: RowShape,
+    records: bool,
+    known: &mut Learnt,
+    file: &mut Option<F>,
+) -> Result<Option<i64>, Trouble> {
+    let ended = watch_input(rt, rt.alloc(), input)?;
     let plan = Plan {
         every: words.every.unwrap_or(Duration::from_secs(1)),
         length: words.length,
         records,
-        readable: policy != "ring",
+        readable: policy_in(&words.options) != "ring",
         ended: &ended,
         shape,
     };
-    let exit = follow(rt, session, &mut known, &plan, &mut file).map_err(Trouble::in_tracing)?;
-    let mut out = Vec::new(alloc);
-    for aggregation in &aggregations {
-        push_table(rt, session, aggregation, shape, &mut out).map_err(Trouble::in_tracing)?;
-        write_out(rt, &mut file, &mut out)?;
-    }
-    let _closed = session.ask(alloc, "{\"cmd\":\"close\"}")?;
-    Ok(status_of_exit(exit))
+    follow(rt, session, known, &plan, file).map_err(Trouble::in_tracing)
 }
 
 /// The status of a program whose clause exited with this number: the number itself where it is a status, and else 1; 0 where none exited.

@@ -3,6 +3,7 @@
 use crate::enabling::accepted;
 use crate::fault::Trouble;
 use crate::json_lines::push_table_line;
+use crate::output::write_out;
 use crate::requests;
 use crate::session::Session;
 use crate::snapping::RowShape;
@@ -14,6 +15,7 @@ use dt_front::{
 use dt_lang::{Call, Clause, Statement};
 use serde_json::Value;
 use std::alloc::Global;
+use std::io::Write;
 
 /// An aggregation of a program.
 #[derive(Drop)]
@@ -59,8 +61,24 @@ fn has_name(found: &[ListedAggregation], name: &str) -> bool {
     false
 }
 
+/// Writes the table of each aggregation.
+pub(crate) fn push_tables<R: Print + Eprint + AllocGlobal, F: Write>(
+    rt: &R,
+    session: &mut Session<'_>,
+    aggregations: &Vec<ListedAggregation>,
+    shape: RowShape,
+    file: &mut Option<F>,
+) -> Result<(), Trouble> {
+    let mut out = Vec::new(rt.alloc());
+    for aggregation in aggregations {
+        push_table(rt, session, aggregation, shape, &mut out).map_err(Trouble::in_tracing)?;
+        write_out(rt, file, &mut out)?;
+    }
+    Ok(())
+}
+
 /// Adds the table of an aggregation, as far as the service answers it.
-pub(crate) fn push_table<R: Print + Eprint + AllocGlobal>(
+fn push_table<R: Print + Eprint + AllocGlobal>(
     rt: &R,
     session: &mut Session<'_>,
     aggregation: &ListedAggregation,
