@@ -150,37 +150,45 @@ fn a_set_has_what_was_taken_in(rt: HostRuntime) {
     }
 }
 
+/// A text of the file with what stands in its place, and the key and the part that are wrong then.
+const FAULTS: &[(&str, &str, &str)] = &[
+    ("\"cpus\":2", "\"cpus\":0", "cpus of the file"),
+    ("\"cpus\"", "\"cpu\"", "cpus of the file"),
+    ("\"ann\"", "\"root\"", "name of account 1"),
+    ("501,\"privs\"", "-1,\"privs\"", "uid of account 1"),
+    (",\"privs\"", ",\"priv\"", "privs of account 0"),
+    ("dtrace_user", "dtrace_all", "privs of account 1"),
+    ("200,\"uid\"", "100,\"uid\"", "pid of process 1"),
+    ("\"sh\"", "7", "execname of process 0"),
+    ("\"syscall:", "\"", "text of probe 0"),
+    ("\"pid100:", "\"pid300:", "provider of probe 3"),
+    ("[[],", "[", "scripts of the file"),
+    ("[[],", "[7,", "scripts of processor 0"),
+    ("\"kernel\"", "\"all\"", "mode of firing 1 of processor 1"),
+    ("[7,-8]", "[7,null]", "args of firing 0 of processor 1"),
+    ("\"probe\":3", "\"probe\":6", "read"),
+    (
+        "3,\"pid\":100",
+        "6,\"pid\":200",
+        "pid of firing 0 of processor 1",
+    ),
+    ("{\"cpus\"", "{", "nothing"),
+];
+
 #[test]
 fn a_fault_tells_the_first_key_that_is_wrong(rt: HostRuntime) -> Result<(), Fail> {
-    for (there, other, want) in [
-        ("\"cpus\":2", "\"cpus\":0", "cpus of the file"),
-        ("\"cpus\"", "\"cpu\"", "cpus of the file"),
-        ("\"ann\"", "\"root\"", "name of account 1"),
-        ("501,\"privs\"", "-1,\"privs\"", "uid of account 1"),
-        (",\"privs\"", ",\"priv\"", "privs of account 0"),
-        ("dtrace_user", "dtrace_all", "privs of account 1"),
-        ("200,\"uid\"", "100,\"uid\"", "pid of process 1"),
-        ("\"sh\"", "7", "execname of process 0"),
-        ("\"syscall:", "\"", "text of probe 0"),
-        ("\"pid100:", "\"pid300:", "provider of probe 3"),
-        ("[[],", "[", "scripts of the file"),
-        ("[[],", "[7,", "scripts of processor 0"),
-        ("\"kernel\"", "\"all\"", "mode of firing 1 of processor 1"),
-        ("[7,-8]", "[7,null]", "args of firing 0 of processor 1"),
-        ("\"probe\":3", "\"probe\":6", "read"),
-        (
-            "3,\"pid\":100",
-            "6,\"pid\":200",
-            "pid of firing 0 of processor 1",
-        ),
-        ("{\"cpus\"", "{", "nothing"),
-    ] {
-        let (before, after) = MACHINE.split_once(there).ok_or("no such text")?;
-        let text = format!(in rt.alloc(); "{before}{other}{after}")?;
-        let found = wrong_in(rt.alloc(), text.as_str())?;
-        assert_eq!(rt; found.as_str(), want);
+    for (there, other, want) in FAULTS {
+        assert!(rt;
+            wrong_with(rt.alloc(), there, other)?.as_str() == *want,
+            "{want}"
+        );
     }
-    let found = wrong_in(rt.alloc(), "[]")?;
-    assert_eq!(rt; found.as_str(), "nothing");
+    assert!(rt; wrong_in(rt.alloc(), "[]")?.as_str() == "nothing");
     Ok(())
+}
+
+/// What is wrong where another text stands in the place of one.
+fn wrong_with(alloc: Global, there: &str, other: &str) -> Result<String, Fail> {
+    let (before, after) = MACHINE.split_once(there).ok_or("no such text")?;
+    wrong_in(alloc, format!(in alloc; "{before}{other}{after}")?.as_str())
 }

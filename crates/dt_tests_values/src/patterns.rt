@@ -40,7 +40,7 @@ a*b?c* abxc aabbxcz abbbc not abc bbxc a
 **a** a ba ab not () b
 ";
 
-const FAULTS: [(&[u8], GlobFault); 18] = [
+const FAULTS: &[(&[u8], GlobFault)] = &[
     (b"[", GlobFault::Unclosed),
     (b"[!", GlobFault::Unclosed),
     (b"[a-", GlobFault::Unclosed),
@@ -112,7 +112,7 @@ fn fault(text: &[u8]) -> Option<GlobFault> {
 #[test]
 fn tells_the_first_fault(rt: HostRuntime) {
     for (text, wanted) in FAULTS {
-        assert!(rt; fault(text) == Some(wanted), "{text:?}");
+        assert!(rt; fault(text) == Some(*wanted), "{text:?}");
     }
 }
 

@@ -75,7 +75,8 @@ fn is_filled(store: &mut AggStore, aggregation: Aggregation) -> bool {
     let mut is_filled = true;
     for n in 0..101_i64 {
         let number = n.wrapping_mul(37) % 101;
-        is_filled = is_filled && give(store, aggregation, &number_key(number), number) == Some(n < 100);
+        is_filled = is_filled
+            && give(store, aggregation, &number_key(number), number) == Some(n < 100);
     }
     is_filled
 }
