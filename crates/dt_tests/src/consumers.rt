@@ -408,10 +408,22 @@ fn consumers_answer_what_the_rows_say(rt: HostRuntime) -> Result<(), Fail> {
     for row in ROWS.lines() {
         if let Some(name) = row.strip_prefix("account ") {
             asking = consumer(alloc, &machine, name)?;
-        } else if let Some((text, want)) = row.split_once(" = ") {
-            let told = answered(alloc, &machine, &mut asking, text)?;
-            assert!(rt; told.as_str() == want, "{text} is answered {told}");
+        } else {
+            assert!(rt; is_so(alloc, &machine, &mut asking, row)?, "{row}");
         }
     }
     Ok(())
+}
+
+/// Whether a row's step is answered what the row says.
+fn is_so(
+    alloc: Global,
+    machine: &Machine,
+    consumer: &mut Consumer,
+    row: &str,
+) -> Result<bool, Fail> {
+    let Some((text, want)) = row.split_once(" = ") else {
+        return Ok(true);
+    };
+    Ok(answered(alloc, machine, consumer, text)?.as_str() == want)
 }

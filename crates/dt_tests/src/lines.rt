@@ -27,10 +27,8 @@ fn lines_do_not_depend_on_the_cutting(rt: HostRuntime) -> Result<(), Fail> {
         for cut in 0..text.len() + 1 {
             for second in cut..text.len() + 1 {
                 let pieces = [&text[..cut], &text[cut..second], &text[second..]];
-                let asked = lines_in(alloc, &pieces)?;
-                assert_eq!(rt;
-                    shown(alloc, &asked)?.as_slice(),
-                    lines.as_bytes(),
+                assert!(rt;
+                    shown(alloc, &pieces)?.as_slice() == lines.as_bytes(),
                     "{input}"
                 );
             }
@@ -44,10 +42,10 @@ fn lines_in(alloc: Global, pieces: &[&[u8]]) -> Result<Vec<Asked>, Fail> {
     Ok(asked_in(alloc, pieces)?)
 }
 
-/// Each line in brackets, where a long one is `!`.
-fn shown(alloc: Global, asked: &[Asked]) -> Result<Vec<u8>, Fail> {
+/// Each line in these pieces in brackets, where a long one is `!`.
+fn shown(alloc: Global, pieces: &[&[u8]]) -> Result<Vec<u8>, Fail> {
     let mut text = Vec::new(alloc);
-    for line in asked {
+    for line in &lines_in(alloc, pieces)? {
         text.push(b'[')?;
         match line {
             Asked::Line(bytes) => text.extend_from_slice(bytes)?,
@@ -145,13 +143,22 @@ fn is_long(rt: &impl Abort, alloc: Global, pieces: [&[u8]; 2], long: bool) -> Re
     } else {
         Asked::Line([first, second].concat(alloc)?)
     };
-    let found = fed(alloc, &mut lines, b"\ny\nz")?;
-    assert!(rt; found == (1, Some(wanted)), "cut at {cut}");
-    let found = fed(alloc, &mut lines, b"y\nz")?;
-    assert!(rt;
-        found == (2, Some(Asked::Line(b"y".to_vec(alloc)?))),
-        "after a line cut at {cut}"
-    );
+    ends(rt, alloc, &mut lines, wanted, cut)?;
+    ends(rt, alloc, &mut lines, Asked::Line(b"y".to_vec(alloc)?), cut)
+}
+
+/// Feeds a newline and a short line: the line that is whole then is this one, and the short line is left to the next.
+fn ends(
+    rt: &impl Abort,
+    alloc: Global,
+    lines: &mut Lines,
+    wanted: Asked,
+    cut: usize,
+) -> Result<(), Fail> {
+    let whole = fed(alloc, lines, b"\ny\nz")?;
+    assert!(rt; whole == (1, Some(wanted)), "cut at {cut}");
+    let rest = fed(alloc, lines, b"y")?;
+    assert!(rt; rest == (1, None), "after a line cut at {cut}");
     Ok(())
 }
 
@@ -189,17 +196,30 @@ fn long_inputs_have_all_their_lines(rt: HostRuntime) -> Result<(), Fail> {
 fn long_inputs_are_fed_as_one_piece(rt: HostRuntime) -> Result<(), Fail> {
     let alloc = rt.alloc();
     for (length, count) in LONG_INPUTS {
-        let (input, asked) = long_input(alloc, *length, *count)?;
-        let wanted = (length.saturating_add(1), Some(asked));
-        let mut lines = Lines::new(alloc)?;
-        let mut rest = input.as_slice();
-        for place in 0..*count {
-            let found = fed(alloc, &mut lines, rest)?;
-            assert!(rt; found == wanted, "line {place} of {length} bytes");
-            rest = rest.get(found.0..).ok_or("more was used than fed")?;
-        }
-        assert!(rt; rest.is_empty(), "lines of {length} bytes");
+        is_fed_as_one_piece(&rt, alloc, *length, *count)?;
     }
+    Ok(())
+}
+
+/// Feeds so many lines of a length in one piece.
+fn is_fed_as_one_piece(
+    rt: &impl Abort,
+    alloc: Global,
+    length: usize,
+    count: usize,
+) -> Result<(), Fail> {
+    let (input, asked) = long_input(alloc, length, count)?;
+    let wanted = (length.saturating_add(1), Some(asked));
+    let mut lines = Lines::new(alloc)?;
+    let mut rest = input.as_slice();
+    for place in 0..count {
+        assert!(rt;
+            fed(alloc, &mut lines, rest)? == wanted,
+            "line {place} of {length} bytes"
+        );
+        rest = rest.get(wanted.0..).ok_or("too few bytes")?;
+    }
+    assert!(rt; rest.is_empty(), "lines of {length} bytes");
     Ok(())
 }
 
@@ -210,13 +230,27 @@ fn a_long_input_is_fed_byte_by_byte(rt: HostRuntime) -> Result<(), Fail> {
     let mut lines = Lines::new(alloc)?;
     let mut whole = 0usize;
     for byte in &input {
-        let (used, line) = fed(alloc, &mut lines, &[*byte])?;
-        assert!(rt; used == 1, "after {whole} lines");
-        if let Some(line) = line {
-            assert!(rt; line == wanted, "after {whole} lines");
+        if is_whole_after(&rt, alloc, &mut lines, *byte, &wanted)? {
             whole = whole.saturating_add(1);
         }
     }
     assert_eq!(rt; whole, 21);
     Ok(())
+}
+
+/// Feeds a byte, and tells whether a line is whole then, which is this one.
+fn is_whole_after(
+    rt: &impl Abort,
+    alloc: Global,
+    lines: &mut Lines,
+    byte: u8,
+    wanted: &Asked,
+) -> Result<bool, Fail> {
+    let (used, line) = fed(alloc, lines, &[byte])?;
+    assert!(rt; used == 1, "a byte isn't used");
+    let Some(line) = line else {
+        return Ok(false);
+    };
+    assert!(rt; line == *wanted, "another line");
+    Ok(true)
 }

@@ -4,8 +4,9 @@ use crate::calls::{
 };
 use dt_chain::Seat;
 use dt_machine::Machine;
-use dt_steps::Step;
+use dt_steps::{Ran, Step};
 use std::alloc::Global;
+use std::process::Abort;
 use std::test::Fail;
 
 /// How many firings come before each time that the sessions ask.
@@ -45,16 +46,21 @@ fn a_long_list_is_answered_to_its_end(rt: HostRuntime) -> Result<(), Fail> {
     let machine = machine_of(alloc, MACHINE)?;
     let steps = long_list(alloc, &machine, seat_numbered(0)?, seat_numbered(9)?)?;
     assert_eq!(rt; steps.len(), 170_012);
-    let ran = ran(alloc, &machine, &steps)?;
-    let answers = replies_of(alloc, &ran)?;
+    is_answered(&rt, alloc, &ran(alloc, &machine, &steps)?)
+}
+
+/// Each turn is answered, and each look names both.
+fn is_answered(rt: &impl Abort, alloc: Global, ran: &Ran) -> Result<(), Fail> {
     assert!(rt;
-        answers.as_slice() == long_answers(alloc)?.as_bytes(),
+        replies_of(alloc, ran)?.as_slice() == long_answers(alloc)?.as_bytes(),
         "the replies"
     );
     assert_eq!(rt; ran.masks.len(), 56_600);
     for mask in &ran.masks {
-        let seats = named(alloc, *mask)?;
-        assert!(rt; seats.as_slice() == BOTH.as_slice(), "a look");
+        assert!(rt;
+            named(alloc, *mask)?.as_slice() == BOTH.as_slice(),
+            "a look"
+        );
     }
     Ok(())
 }
@@ -67,15 +73,27 @@ fn long_list(alloc: Global, machine: &Machine, one: Seat, other: Seat) -> Result
         steps.push(step_on(alloc, word, seat_numbered(seat.parse::<u32>()?)?, more)?)?;
     }
     for _turn in 0..TURNS {
-        for _firing in 0..FIRINGS {
-            steps.push(look(machine, 0, 0, 0)?)?;
-            steps.push(Step::Offer(0, one))?;
-            steps.push(Step::Offer(0, other))?;
-        }
-        steps.push(Step::Ask(one, asked(alloc, br#"{"cmd":"agg","name":""}"#)?))?;
-        steps.push(Step::Ask(other, asked(alloc, br#"{"cmd":"status"}"#)?))?;
+        push_turn(alloc, machine, one, other, &mut steps)?;
     }
     Ok(steps)
+}
+
+/// Adds the steps of a turn.
+fn push_turn(
+    alloc: Global,
+    machine: &Machine,
+    one: Seat,
+    other: Seat,
+    steps: &mut Vec<Step>,
+) -> Result<(), Fail> {
+    for _firing in 0..FIRINGS {
+        steps.push(look(machine, 0, 0, 0)?)?;
+        steps.push(Step::Offer(0, one))?;
+        steps.push(Step::Offer(0, other))?;
+    }
+    steps.push(Step::Ask(one, asked(alloc, br#"{"cmd":"agg","name":""}"#)?))?;
+    steps.push(Step::Ask(other, asked(alloc, br#"{"cmd":"status"}"#)?))?;
+    Ok(())
 }
 
 /// What is answered to it: in each turn, how many firings there were.

@@ -4,6 +4,7 @@ use dt_chain::Seat;
 use dt_machine::Machine;
 use dt_steps::{Ran, Step};
 use std::alloc::Global;
+use std::process::Abort;
 use std::test::Fail;
 
 /// Two processors, three accounts of which one may not trace, and six firings.
@@ -163,28 +164,39 @@ impl Plan {
             steps: Vec::new(alloc),
         };
         for number in USED {
-            let seat = seat_numbered(number)?;
-            plan.places.push(Place {
-                seat,
-                is_open: false,
-                closed: 0,
-            })?;
+            plan.use_seat(number)?;
         }
         for _round in 0..rounds {
-            for cpu in CPUS {
-                plan.some()?;
-                plan.look(cpu)?;
-            }
-            let first = plan.random.below(USED.len());
-            for turn in 0..USED.len() {
-                for cpu in CPUS {
-                    plan.some()?;
-                    let at = first.wrapping_add(turn) % USED.len();
-                    plan.add(Kind::Offer(cpu), at)?;
-                }
-            }
+            plan.round()?;
         }
         Ok(plan)
+    }
+
+    /// Takes a seat among those that are used.
+    fn use_seat(&mut self, number: u32) -> Result<(), Fail> {
+        let seat = seat_numbered(number)?;
+        self.places.push(Place {
+            seat,
+            is_open: false,
+            closed: 0,
+        })?;
+        Ok(())
+    }
+
+    /// Both processors look, and then offer to each seat.
+    fn round(&mut self) -> Result<(), Fail> {
+        for cpu in CPUS {
+            self.some()?;
+            self.look(cpu)?;
+        }
+        let first = self.random.below(USED.len());
+        for turn in 0..USED.len() {
+            for cpu in CPUS {
+                self.some()?;
+                self.add(Kind::Offer(cpu), first.wrapping_add(turn) % USED.len())?;
+            }
+        }
+        Ok(())
     }
 
     /// A few steps of sessions, or none.
@@ -281,34 +293,71 @@ fn told_at(alloc: Global, ran: &Ran, seat: Seat) -> Result<Vec<u8>, Fail> {
 /// What is told at a seat is what each of its sessions is told alone, one after the other, byte for byte.
 #[test]
 fn random_steps(rt: HostRuntime) -> Result<(), Fail> {
-    let alloc = rt.alloc();
-    let machine = machine_of(alloc, MACHINE)?;
+    let machine = machine_of(rt.alloc(), MACHINE)?;
     for seed in [1, 2] {
-        let plan = Plan::new(alloc, seed, 500)?;
-        for name in [
-            "open", "ask", "publish", "finish", "withdraw", "close", "look", "offer",
-        ] {
-            assert!(rt; plan.count(name) >= 200, "seed {seed}: {name}");
-        }
-        let all = plan.run(alloc, &machine, None)?;
-        let mut recorded = 0usize;
-        for place in &plan.places {
-            let mut alone = Vec::new(alloc);
-            for closed in 0..place.closed.saturating_add(1) {
-                let ran = plan.run(alloc, &machine, Some((place.seat, closed)))?;
-                alone.extend_from_slice(&told_at(alloc, &ran, place.seat)?)?;
-            }
-            let told = told_at(alloc, &all, place.seat)?;
-            assert!(rt; alone == told, "seed {seed}, seat {}", place.seat.number());
-            let replies = str::from_utf8(&told).ok().ok_or("no text")?;
-            for piece in replies.split("\"data\":") {
-                if piece.starts_with("\"0") {
-                    recorded = recorded.saturating_add(1);
-                }
-            }
-        }
-        // these are lists in which much is recorded
-        assert!(rt; recorded >= 10, "seed {seed}: {recorded}");
+        plays(&rt, rt.alloc(), &machine, seed)?;
     }
     Ok(())
+}
+
+/// Plays the list of a seed. It has each kind of step often, and much is recorded in it.
+fn plays(rt: &impl Abort, alloc: Global, machine: &Machine, seed: u64) -> Result<(), Fail> {
+    let plan = Plan::new(alloc, seed, 500)?;
+    for name in [
+        "open", "ask", "publish", "finish", "withdraw", "close", "look", "offer",
+    ] {
+        assert!(rt; plan.count(name) >= 200, "seed {seed}: {name}");
+    }
+    assert!(rt;
+        recorded_alike(rt, alloc, machine, &plan)? >= 10,
+        "seed {seed}"
+    );
+    Ok(())
+}
+
+/// How many replies have records, where at each seat is told what its sessions are told alone.
+fn recorded_alike(
+    rt: &impl Abort,
+    alloc: Global,
+    machine: &Machine,
+    plan: &Plan,
+) -> Result<usize, Fail> {
+    let all = plan.run(alloc, machine, None)?;
+    let mut recorded = 0usize;
+    for place in &plan.places {
+        let told = told_at(alloc, &all, place.seat)?;
+        assert!(rt;
+            told_alone(alloc, machine, plan, place)? == told,
+            "seat {}",
+            place.seat.number()
+        );
+        recorded = recorded.saturating_add(recorded_in(&told)?);
+    }
+    Ok(recorded)
+}
+
+/// What each session of a seat is told alone, one after the other.
+fn told_alone(
+    alloc: Global,
+    machine: &Machine,
+    plan: &Plan,
+    place: &Place,
+) -> Result<Vec<u8>, Fail> {
+    let mut alone = Vec::new(alloc);
+    for closed in 0..place.closed.saturating_add(1) {
+        let ran = plan.run(alloc, machine, Some((place.seat, closed)))?;
+        alone.extend_from_slice(&told_at(alloc, &ran, place.seat)?)?;
+    }
+    Ok(alone)
+}
+
+/// How many of these replies have records.
+fn recorded_in(told: &[u8]) -> Result<usize, Fail> {
+    let replies = str::from_utf8(told).ok().ok_or("no text")?;
+    Ok(
+        replies
+            .split("\"data\":")
+            .filter(|piece| piece.starts_with("\"0"))
+            .count(),
+    )
 }

@@ -54,23 +54,10 @@ fn a_consumer_is_answered_alone(rt: HostRuntime) -> Result<(), Fail> {
 fn a_long_life_is_answered_alone(rt: HostRuntime) -> Result<(), Fail> {
     let alloc = rt.alloc();
     let machine = machine_of(alloc, MACHINE)?;
-    let mut items = items_of(alloc, &machine, &[ENABLE, GO])?;
-    for _firing in 0..3_000usize {
-        items.append(&mut items_of(alloc, &machine, &["fired"])?)?;
-    }
-    items.append(&mut items_of(alloc, &machine, &[SNAP])?)?;
-    for _line in 0..1_100usize {
-        items.push(Item::Line(asked(alloc, b"[]")?))?;
-    }
+    let items = long_life(alloc, &machine)?;
     let told = answered_alone(alloc, &machine, "root", &items)?;
     assert_eq!(rt; told.len(), 1_103usize);
-    let data = "00000001".repeat(alloc, 3_000)?;
-    let shown = [
-        r#"{"cpu":0,"data":""#,
-        data.as_str(),
-        "\",\"drops\":0,\"filled\":false,\"ok\":true}\n",
-    ]
-    .concat(alloc)?;
+    let shown = shown(alloc)?;
     for (place, reply) in told.iter().enumerate() {
         let wanted = match place {
             0 => "{\"count\":1,\"first\":1,\"ok\":true}\n",
@@ -82,6 +69,29 @@ fn a_long_life_is_answered_alone(rt: HostRuntime) -> Result<(), Fail> {
         assert_eq!(rt; reply.as_slice(), wanted.as_bytes(), "{place}");
     }
     Ok(())
+}
+
+fn long_life(alloc: Global, machine: &Machine) -> Result<Vec<Item>, Fail> {
+    let mut items = items_of(alloc, machine, &[ENABLE, GO])?;
+    for _firing in 0..3_000usize {
+        items.append(&mut items_of(alloc, machine, &["fired"])?)?;
+    }
+    items.append(&mut items_of(alloc, machine, &[SNAP])?)?;
+    for _line in 0..1_100usize {
+        items.push(Item::Line(asked(alloc, b"[]")?))?;
+    }
+    Ok(items)
+}
+
+/// What its `snap` is answered.
+fn shown(alloc: Global) -> Result<String, Fail> {
+    let data = "00000001".repeat(alloc, 3_000)?;
+    let parts = [
+        r#"{"cpu":0,"data":""#,
+        data.as_str(),
+        "\",\"drops\":0,\"filled\":false,\"ok\":true}\n",
+    ];
+    Ok(parts.concat(alloc)?)
 }
 
 fn items_of(alloc: Global, machine: &Machine, words: &[&str]) -> Result<Vec<Item>, Fail> {
