@@ -144,12 +144,9 @@ fn told_bare(
 ) -> Result<Option<String>, Fail> {
     let program = parsed(alloc, text)?;
     let clause = program.clauses.first().ok_or("no clause")?;
-    if only_records(clause) {
-        Ok(Some(told_record(alloc, clause, scene, room)?))
-    } else if only_gives(clause) {
-        Ok(Some(told_given(alloc, clause, scene, room)?))
-    } else {
-        Ok(None)
+    match told_record(alloc, clause, scene, room)? {
+        Some(words) => Ok(Some(words)),
+        None => told_given(alloc, clause, scene, room),
     }
 }
 
@@ -159,14 +156,19 @@ fn told_record(
     clause: &Clause,
     scene: &Scene,
     room: &mut BareRoom,
-) -> Result<String, Fail> {
+) -> Result<Option<String>, Fail> {
+    if !only_records(clause) {
+        return Ok(None);
+    }
     let locals = Locals::new(alloc, 64)?;
     room.recording = room.recording.saturating_add(1);
-    match record_only(&mut room.record, 5, clause, scene, &locals) {
-        Ok(true) => digits_of(alloc, room.record.as_slice()),
-        Ok(false) => Ok(String::from_str(alloc, "passed")?),
-        Err(_) => Ok(String::from_str(alloc, "fault")?),
-    }
+    Ok(Some(
+        match record_only(&mut room.record, 5, clause, scene, &locals) {
+            Ok(true) => digits_of(alloc, room.record.as_slice())?,
+            Ok(false) => String::from_str(alloc, "passed")?,
+            Err(_) => String::from_str(alloc, "fault")?,
+        },
+    ))
 }
 
 /// What a clause leaves that does nothing but give.
@@ -175,14 +177,17 @@ fn told_given(
     clause: &Clause,
     scene: &Scene,
     room: &mut BareRoom,
-) -> Result<String, Fail> {
+) -> Result<Option<String>, Fail> {
+    if !only_gives(clause) {
+        return Ok(None);
+    }
     let locals = Locals::new(alloc, 64)?;
     room.giving = room.giving.saturating_add(1);
-    match give_only(&mut room.values, clause, scene, &locals) {
-        Ok(true) => given(alloc, room.values.as_slice()),
-        Ok(false) => Ok(String::from_str(alloc, "passed")?),
-        Err(_) => Ok(String::from_str(alloc, "fault")?),
-    }
+    Ok(Some(match give_only(&mut room.values, clause, scene, &locals) {
+        Ok(true) => given(alloc, room.values.as_slice())?,
+        Ok(false) => String::from_str(alloc, "passed")?,
+        Err(_) => String::from_str(alloc, "fault")?,
+    }))
 }
 
 /// No record, and the numbers that are given, in the words of the table.
