@@ -4,7 +4,6 @@ use dt_cred::Account;
 use dt_machine::{Firing, Interest, Machine, PROBE_ID_MAX};
 use std::alloc::Global;
 use std::process::Abort;
-use std::str::SplitWhitespace;
 use std::test::Fail;
 
 /// Probes 1 and 2 are `BEGIN` and `END`, those of the file have 3 to 6; the firings of processor 0 are numbered from
@@ -62,7 +61,10 @@ fn plays(rt: &impl Abort, alloc: Global, machine: &Machine, line: &str) -> Resul
     while let Some(word) = words.next() {
         let first = words.next().ok_or("no word")?;
         match word {
-            "+" => publishes(alloc, machine, &mut entries, first, &mut words)?,
+            "+" => {
+                let more = (words.next(), words.next(), words.next());
+                publishes(alloc, machine, &mut entries, first, more)?;
+            }
             "-" => withdrawn(&mut entries, seat_of(first)?)?,
             _ => looks(
                 rt,
@@ -77,18 +79,18 @@ fn plays(rt: &impl Abort, alloc: Global, machine: &Machine, line: &str) -> Resul
     Ok(())
 }
 
-/// Publishes at a seat what the next words say.
+/// Publishes at a seat: the life, the account and the probes of these words.
 fn publishes(
     alloc: Global,
     machine: &Machine,
     entries: &mut Entries,
     seat: &str,
-    words: &mut SplitWhitespace,
+    (life, name, probes): (Option<&str>, Option<&str>, Option<&str>),
 ) -> Result<(), Fail> {
-    let life = first_number(words.next())?;
-    let name = words.next().ok_or("no account")?;
+    let life = first_number(life)?;
+    let name = name.ok_or("no account")?;
     let account = machine.account(name.as_bytes()).ok_or("no account")?;
-    let interest = interest_of(words.next().ok_or("no probes")?)?;
+    let interest = interest_of(probes.ok_or("no probes")?)?;
     published(alloc, entries, seat_of(seat)?, life, account, &interest)
 }
 
