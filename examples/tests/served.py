@@ -33,6 +33,9 @@ FULL = b'{"error":17,"name":"Full"}\n'
 NO_PRIVILEGE = b'{"error":18,"name":"NoPrivilege"}\n'
 QUOTA = b'{"error":15,"name":"Quota"}\n'
 BAD_JSON = b'{"error":1,"name":"Json"}\n'
+NO_REQUEST = b'{"error":2,"name":"Request"}\n'
+# how deep a line may be nested
+LEVELS = 127
 # a stack that is large enough for all threads but those that read lines
 SMALL_STACK = 64 * 1024
 OPEN_STEP = re.compile(r"(open|call|fire|close) ([0-9]+) ?(.*)", re.S)
@@ -436,7 +439,8 @@ def deep_lines(_folder):
     with serving(machine([[]]), preexec_fn=lambda: resource.setrlimit(resource.RLIMIT_STACK, (SMALL_STACK, SMALL_STACK))) as service:
         client = service.client()
         yield "a line of brackets alone", client.ask(b"[" * 65_536 + b"\n"), BAD_JSON
-        yield "the line after it", client.ask(STATUS), STATUS_REPLY
+        yield "the deepest line that is JSON", client.ask(b"[" * LEVELS + b"]" * LEVELS + b"\n"), NO_REQUEST
+        yield "the line after them", client.ask(STATUS), STATUS_REPLY
         client.close()
         yield "its end", service.end().told, (b"", b"", 0)
 

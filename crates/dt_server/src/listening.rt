@@ -18,7 +18,7 @@ use std::time::Duration;
 /// How long nothing is accepted after a failure.
 const PAUSE_MILLIS: u64 = 20;
 
-/// The stack of a session's thread, in bytes. What the system would give is the operator's to set, and may be too little for a line whose brackets are as deep as it is long.
+/// The stack of a session's thread, in bytes. What the system would give is the operator's to set, and may be too little to read a line of JSON to its last level, the 127th.
 const SESSION_STACK: usize = 1 << 20;
 
 /// What a client is told that finds no free seat.

@@ -143,11 +143,11 @@ fn is_long(rt: &impl Abort, alloc: Global, pieces: [&[u8]; 2], long: bool) -> Re
     } else {
         Asked::Line([first, second].concat(alloc)?)
     };
-    ends(rt, alloc, &mut lines, wanted, cut)?;
-    ends(rt, alloc, &mut lines, Asked::Line(b"y".to_vec(alloc)?), cut)
+    ends(rt, alloc, &mut lines, wanted, cut)
 }
 
-/// Feeds a newline and a short line: the line that is whole then is this one, and the short line is left to the next.
+/// Feeds the newline of a line, which is this one, and more bytes: it is whole then, and only the newline was used of them. Then it feeds a short line, its
+/// newline and more bytes.
 fn ends(
     rt: &impl Abort,
     alloc: Global,
@@ -157,8 +157,11 @@ fn ends(
 ) -> Result<(), Fail> {
     let whole = fed(alloc, lines, b"\ny\nz")?;
     assert!(rt; whole == (1, Some(wanted)), "cut at {cut}");
-    let rest = fed(alloc, lines, b"y")?;
-    assert!(rt; rest == (1, None), "after a line cut at {cut}");
+    let short = (2, Some(Asked::Line(b"y".to_vec(alloc)?)));
+    assert!(rt;
+        fed(alloc, lines, b"y\nz")? == short,
+        "after a line cut at {cut}"
+    );
     Ok(())
 }
 
