@@ -308,10 +308,8 @@ fn plays(rt: &impl Abort, alloc: Global, machine: &Machine, seed: u64) -> Result
     ] {
         assert!(rt; plan.count(name) >= 200, "seed {seed}: {name}");
     }
-    assert!(rt;
-        recorded_alike(rt, alloc, machine, &plan)? >= 10,
-        "seed {seed}"
-    );
+    let recorded = recorded_alike(rt, alloc, machine, &plan, seed)?;
+    assert!(rt; recorded >= 10, "seed {seed}: {recorded}");
     Ok(())
 }
 
@@ -321,6 +319,7 @@ fn recorded_alike(
     alloc: Global,
     machine: &Machine,
     plan: &Plan,
+    seed: u64,
 ) -> Result<usize, Fail> {
     let all = plan.run(alloc, machine, None)?;
     let mut recorded = 0usize;
@@ -328,7 +327,7 @@ fn recorded_alike(
         let told = told_at(alloc, &all, place.seat)?;
         assert!(rt;
             told_alone(alloc, machine, plan, place)? == told,
-            "seat {}",
+            "seed {seed}, seat {}",
             place.seat.number()
         );
         recorded = recorded.saturating_add(recorded_in(&told)?);
