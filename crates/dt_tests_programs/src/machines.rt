@@ -178,12 +178,9 @@ const FAULTS: &[(&str, &str, &str)] = &[
 #[test]
 fn a_fault_tells_the_first_key_that_is_wrong(rt: HostRuntime) -> Result<(), Fail> {
     for (there, other, want) in FAULTS {
-        assert!(rt;
-            wrong_with(rt.alloc(), there, other)?.as_str() == *want,
-            "{want}"
-        );
+        assert_eq!(rt; wrong_with(rt.alloc(), there, other)?.as_str(), *want);
     }
-    assert!(rt; wrong_in(rt.alloc(), "[]")?.as_str() == "nothing");
+    assert_eq!(rt; wrong_in(rt.alloc(), "[]")?.as_str(), "nothing");
     Ok(())
 }
 
