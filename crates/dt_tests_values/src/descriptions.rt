@@ -1,5 +1,6 @@
 //! Descriptions and their faults, from the rules.
 use dt_names::{NameFault, ProbeDesc};
+use std::process::Abort;
 
 const NAME_63: &[u8] = b"aaaaaaaaaabbbbbbbbbbccccccccccddddddddddeeeeeeeeeeffffffffff.63";
 
@@ -18,20 +19,20 @@ fn aligns_descriptions_from_the_right(rt: HostRuntime) {
         (NAME_63, [b"", b"", b"", NAME_63]),
     ];
     for (text, want) in rows {
-        assert!(rt; has_fields(text, &want), "{text:?}");
+        has_fields(&rt, text, &want);
     }
 }
 
-/// Whether a text is a description of this provider, module, function and name.
-fn has_fields(text: &[u8], want: &[&[u8]; 4]) -> bool {
+/// A text is a description of this provider, module, function and name.
+fn has_fields(rt: &impl Abort, text: &[u8], want: &[&[u8]; 4]) {
     match parsed(text) {
+        Err(fault) => panic!(rt; "{text:?} is refused: {fault}"),
         Ok(desc) => {
-            desc.provider == want[0]
-                && desc.module == want[1]
-                && desc.function == want[2]
-                && desc.name == want[3]
+            assert!(rt; desc.provider == want[0], "the provider of {text:?}");
+            assert!(rt; desc.module == want[1], "the module of {text:?}");
+            assert!(rt; desc.function == want[2], "the function of {text:?}");
+            assert!(rt; desc.name == want[3], "the name of {text:?}");
         }
-        Err(_) => false,
     }
 }
 

@@ -1,6 +1,7 @@
 //! Patterns against texts, and the faults of texts that are no pattern.
 
 use dt_glob::{GlobFault, PATTERN_MAX, Pattern};
+use std::process::Abort;
 use std::test::Fail;
 
 /// In each line a pattern, texts that it matches, and behind `not` texts that it doesn't; `()` is the empty text.
@@ -64,24 +65,25 @@ const FAULTS: &[(&[u8], GlobFault)] = &[
 #[test]
 fn matches_whole_texts(rt: HostRuntime) -> Result<(), Fail> {
     for line in TABLE.lines() {
-        assert!(rt; is_so(line)?, "{line}");
+        is_so(&rt, line)?;
     }
     Ok(())
 }
 
-/// Whether a line's pattern matches what the line says.
-fn is_so(line: &str) -> Result<bool, Fail> {
+/// A line's pattern matches what the line says, and nothing that stands there behind `not`.
+fn is_so(rt: &impl Abort, line: &str) -> Result<(), Fail> {
     let mut words = line.split_whitespace();
     let pattern = words.next().unwrap_or("()");
     let mut matched = true;
     for word in words {
         if word == "not" {
             matched = false;
-        } else if matches(text_of(pattern), text_of(word))? != matched {
-            return Ok(false);
+        } else {
+            let found = matches(text_of(pattern), text_of(word))?;
+            assert!(rt; found == matched, "{word} in {line}");
         }
     }
-    Ok(true)
+    Ok(())
 }
 
 /// The text that a word of the table stands for.

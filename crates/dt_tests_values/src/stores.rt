@@ -70,7 +70,7 @@ fn many_keys_come_in_order(rt: HostRuntime) -> Result<(), Fail> {
     Ok(())
 }
 
-/// Gives a hundred keys to a store and one more, and tells whether it has room for these hundred.
+/// Gives 101 keys to a store, and tells whether the first hundred were kept and the last one dropped.
 fn is_filled(store: &mut AggStore, aggregation: Aggregation) -> bool {
     let mut is_filled = true;
     for n in 0..101_i64 {
