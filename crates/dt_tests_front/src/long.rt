@@ -155,7 +155,7 @@ fn all_levels_are_rows(rt: HostRuntime) -> Result<(), Fail> {
 fn all_levels_are_few_powers(rt: HostRuntime) -> Result<(), Fail> {
     let powers = power_rows(rt.alloc(), &level_counts(rt.alloc())?)?;
     assert_eq!(rt; powers.len(), 127);
-    // ten have one of these names: 0 and the powers from 1 to 256
+    // of these rows ten have the name of a level: 0 and the powers from 1 to 256
     assert_eq!(rt; rows_total(&powers), Some(10));
     Ok(())
 }
