@@ -2,7 +2,6 @@
 ghost use Rattle.std.specs.Prelude.{◌≡◌, ℕ, List, IfSome};
 ghost use mathlib.Core.List.{IsPrefix};
 ghost use Rattle.dt_chain.specs.Writes.{Write};
-ghost use Rattle.dt_cred.specs.declared.account.Account.{Account};
 ghost use Rattle.dt_legal.specs.Rows.{IsLegalRow};
 ghost use Rattle.dt_seat.specs.Keeps.{IsOfAccount};
 ghost use Rattle.dt_seat.specs.Publications.{IsPublished};
