@@ -9,3 +9,4 @@ pub mod Fronts
 pub mod Adding
 pub mod Rises
 pub mod Pending
+pub mod GoingOver

@@ -50,8 +50,8 @@ impl SeatMask {
     {
         NamedSeats {
             mask: self,
-            left: self.seats,
             word: 0,
+            left: self.seats.words[0],
         }
     }
 

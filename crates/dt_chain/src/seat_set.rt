@@ -79,16 +79,7 @@ impl SeatSet {
         ensures { MatchOption result ((seat : ℕ) → has self.now seat ≡ false)
             (λ first. (has self.now first ≡ true) × ((seat : ℕ) → seat < first → has self.now seat ≡ false)) }
     {
-        self.first_from(0)
-    }
-
-    /// The same, where the words before one have no seat.
-    pub(crate) fn first_from(&self, from: usize) -> Option<Seat>
-        requires { (seat : ℕ) → seat / WORD_BITS < from → has self.now seat ≡ false }
-        ensures { MatchOption result ((seat : ℕ) → has self.now seat ≡ false)
-            (λ first. (has self.now first ≡ true) × ((seat : ℕ) → seat < first → has self.now seat ≡ false)) }
-    {
-        for word in from..SEAT_WORDS {
+        for word in 0..SEAT_WORDS {
             if let Some(place) = self.words[word].first() {
                 return Some(Seat::at(word, place));
             }
