@@ -14,6 +14,7 @@ mod limit_laws;
 mod limits;
 mod policy;
 mod principal;
+mod read_ahead;
 mod ring;
 mod switch;
 

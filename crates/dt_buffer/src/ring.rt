@@ -6,6 +6,7 @@ ghost use Rattle.dt_buffer.specs.Ending.{AreAllOf};
 ghost use Rattle.dt_buffer.specs.declared.limits.TheConstants.{DROPS_LIMIT, SIZE_MAX};
 
 use crate::limits::{DROPS_LIMIT, SIZE_MAX};
+use crate::read_ahead::ReadAhead;
 use circular_buffer::HeapCircularBuffer;
 use std::alloc::{AllocError, Global};
 
@@ -17,6 +18,8 @@ pub(crate) struct RingStore {
     /// The one length of all records held that have bytes, if it is known.
     pub(crate) each: Option<u32>,
     pub(crate) drops: u64,
+    /// What was read ahead, of which nothing comes.
+    pub(crate) ahead: ReadAhead,
     ghost small: { bytes.capacity ≤ SIZE_MAX },
     ghost alike: { ForSome each (AreAllOf lengths.items) },
 }
@@ -36,6 +39,7 @@ impl RingStore {
             lengths: HeapCircularBuffer::with_capacity(alloc, size)?,
             each: None,
             drops: 0,
+            ahead: ReadAhead::new(),
         })
     }
 
@@ -57,6 +61,7 @@ impl RingStore {
             let left = self.bytes.len().saturating_sub(bytes.len());
             self.bytes.truncate_front(left);
             self.bytes.fill_from_slice(bytes);
+            self.ahead.go_on(&self.bytes, bytes.len());
             return true;
         }
         self.make_room(bytes.len());
