@@ -41,11 +41,20 @@ fn set_option<R: Print + Eprint + AllocGlobal>(
     name: &str,
     value: &str,
 ) -> Result<(), Trouble> {
-    let alloc = rt.alloc();
-    let line = requests::option(alloc, name, value)?;
-    let reply = session.ask(alloc, &line)?;
-    let told = format!(in alloc; "-x {name}={value}")?;
+    let reply = ask_option(rt.alloc(), session, name, value)?;
+    let told = format!(in rt.alloc(); "-x {name}={value}")?;
     accepted(rt, &reply, told.as_str(), None)
+}
+
+/// Asks for an option to be set, and gives the reply.
+fn ask_option(
+    alloc: Global,
+    session: &mut Session<'_>,
+    name: &str,
+    value: &str,
+) -> Result<Value, Trouble> {
+    let line = requests::option(alloc, name, value)?;
+    session.ask(alloc, &line)
 }
 
 /// What is told of the program at this place where it is refused: the files of `-s` come after the texts of `-n`.
@@ -53,14 +62,23 @@ fn refused_program(alloc: Global, words: &Invocation<'_>, place: usize) -> Resul
     let texts = words.programs.len();
     if place >= texts {
         let path = words.files.get(place - texts).copied().unwrap_or("");
-        return Ok(format!(in alloc; "the program of {path} is refused")?);
+        return refused_file(alloc, path);
     }
     if texts > 1 {
-        let number = place.saturating_add(1);
-        return Ok(format!(in alloc; "program {number} of the {texts} of -n is refused")?);
+        return refused_text(alloc, place.saturating_add(1), texts);
     }
     let which = if words.files.is_empty() { "" } else { " of -n" };
     Ok(format!(in alloc; "the program{which} is refused")?)
+}
+
+/// What is told of the program of a file where it is refused.
+fn refused_file(alloc: Global, path: &str) -> Result<String, Trouble> {
+    Ok(format!(in alloc; "the program of {path} is refused")?)
+}
+
+/// What is told of the program of this number of so many of `-n` where it is refused.
+fn refused_text(alloc: Global, number: usize, texts: usize) -> Result<String, Trouble> {
+    Ok(format!(in alloc; "program {number} of the {texts} of -n is refused")?)
 }
 
 /// Enables a program, and gives how many enablings it made.
@@ -71,11 +89,15 @@ fn enable<R: Print + Eprint + AllocGlobal>(
     program: &str,
     refused: &str,
 ) -> Result<u64, Trouble> {
-    let alloc = rt.alloc();
-    let line = requests::with_text(alloc, "enable", "text", program)?;
-    let reply = session.ask(alloc, &line)?;
+    let reply = ask_enable(rt.alloc(), session, program)?;
     accepted(rt, &reply, refused, Some((program, width)))?;
     number_field(&reply, "count").ok_or(Trouble::Strange)
+}
+
+/// Asks for a program to be enabled, and gives the reply.
+fn ask_enable(alloc: Global, session: &mut Session<'_>, program: &str) -> Result<Value, Trouble> {
+    let line = requests::with_text(alloc, "enable", "text", program)?;
+    session.ask(alloc, &line)
 }
 
 /// Begins to trace, and says how many probes matched.
@@ -86,6 +108,11 @@ pub(crate) fn begin<R: Print + Eprint + AllocGlobal>(
 ) -> Result<(), Trouble> {
     let reply = session.ask(rt.alloc(), "{\"cmd\":\"go\"}")?;
     accepted(rt, &reply, "tracing doesn't begin", None)?;
+    tell_matched(rt, count)
+}
+
+/// Tells how many probes matched.
+fn tell_matched<R: Eprint + AllocGlobal>(rt: &R, count: u64) -> Result<(), Trouble> {
     let probes = if count == 1 { "probe" } else { "probes" };
     let matched = format!(in rt.alloc(); "dtr: {count} {probes} matched\n")?;
     tell(rt, matched.as_bytes());
@@ -121,20 +148,39 @@ fn explained(
     };
     let mut told = Vec::from_slice(alloc, b"dtr: ")?;
     push_shown(&mut told, what.as_bytes())?;
-    let (Some((text, width)), Some(at)) = (program, refusal.at) else {
-        told.extend_from_slice(b": ")?;
-        refusal.push_sentence(&mut told)?;
-        return Ok(told);
-    };
+    match (program, refusal.at) {
+        (Some((text, width)), Some(at)) => {
+            push_reason_at(alloc, &mut told, refusal, text, width, at)?;
+        }
+        _ => push_reason(&mut told, refusal)?,
+    }
+    Ok(told)
+}
+
+/// Adds why a line was refused.
+fn push_reason(told: &mut Vec<u8>, refusal: &ToldRefusal<'_>) -> Result<(), Trouble> {
+    told.extend_from_slice(b": ")?;
+    refusal.push_sentence(told)?;
+    Ok(())
+}
+
+/// Adds why a text was refused, the line of it that has this place, and a caret below the place.
+fn push_reason_at(
+    alloc: Global,
+    told: &mut Vec<u8>,
+    refusal: &ToldRefusal<'_>,
+    text: &str,
+    width: usize,
+    at: u64,
+) -> Result<(), Trouble> {
     let at = usize::try_from(at).unwrap_or(usize::MAX).min(text.len());
     if text.contains('\n') {
         told.extend_from_slice(b" in line ")?;
-        push_number(&mut told, line_number(text.as_bytes(), at))?;
+        push_number(told, line_number(text.as_bytes(), at))?;
     }
-    told.extend_from_slice(b": ")?;
-    refusal.push_sentence(&mut told)?;
-    push_caret(alloc, &mut told, width.max(1), text.as_bytes(), at)?;
-    Ok(told)
+    push_reason(told, refusal)?;
+    push_caret(alloc, told, width.max(1), text.as_bytes(), at)?;
+    Ok(())
 }
 
 /// The number of the line that has a place of a text, counted from 1.

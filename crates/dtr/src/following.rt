@@ -35,6 +35,13 @@ pub(crate) struct Plan<'a> {
     pub(crate) shape: RowShape,
 }
 
+impl Plan<'_> {
+    /// Whether standard input has ended, or the time of tracing, of which so much is spent, is over.
+    fn is_over(&self, spent: Duration) -> bool {
+        self.ended.load(Ordering::SeqCst) || self.length.is_some_and(|length| spent >= length)
+    }
+}
+
 /// Why the program goes on no more.
 #[derive(Clone, Copy, PartialEq, Eq, Drop)]
 enum Over {
@@ -52,28 +59,45 @@ pub(crate) fn follow<R: Print + Eprint + AllocGlobal + Clock, F: Write>(
     plan: &Plan<'_>,
     file: &mut Option<F>,
 ) -> Result<Option<i64>, Trouble> {
-    let begun = Instant::now(rt).map_err(|_| Trouble::Clock)?;
+    let begun = now(rt)?;
     let mut buffers = 0_u64;
     for _ in 0..u64::MAX {
         if let Some(why) = wait(rt, session, plan, buffers, known, begun)? {
             stop(rt, session, why)?;
         }
         let status = status_of(rt, session)?;
-        let stopped = text_field(&status, "phase") == Some("stopped");
-        let cpus = tell_errors(rt, known, &status)?;
-        buffers = if plan.records { cpus } else { 0 };
-        let seen = number_field(&status, "seen").ok_or(Trouble::Strange)?;
-        // BEGIN leaves records, and isn't counted as seen
-        if stopped || (plan.readable && known.seen != Some(seen)) {
-            known.seen = Some(seen);
-            take_snaps(rt, session, known, buffers, plan.shape, file)?;
-        }
-        if stopped {
-            tell_history(rt, &status)?;
+        if look(rt, session, known, plan, &status, &mut buffers, file)? {
             return Ok(exit_in(&status));
         }
     }
     Ok(None)
+}
+
+/// Tells what is new in a status, and writes what was recorded. Sets how many buffers there are to read, and gives whether tracing has ended.
+fn look<R: Print + Eprint + AllocGlobal, F: Write>(
+    rt: &R,
+    session: &mut Session<'_>,
+    known: &mut Learnt,
+    plan: &Plan<'_>,
+    status: &Value,
+    buffers: &mut u64,
+    file: &mut Option<F>,
+) -> Result<bool, Trouble> {
+    let stopped = text_field(status, "phase") == Some("stopped");
+    let cpus = tell_errors(rt, known, status)?;
+    *buffers = if plan.records { cpus } else { 0 };
+    let Some(seen) = number_field(status, "seen") else {
+        return Err(Trouble::Strange);
+    };
+    // BEGIN leaves records, and isn't counted as seen
+    if stopped || (plan.readable && known.seen != Some(seen)) {
+        known.seen = Some(seen);
+        take_snaps(rt, session, known, *buffers, plan.shape, file)?;
+    }
+    if stopped {
+        tell_history(rt, status)?;
+    }
+    Ok(stopped)
 }
 
 /// Tells that the history is full, where tracing ended for that.
@@ -239,22 +263,30 @@ fn wait<R: Clock>(
     if looks == 0 {
         return Ok(Some(Over::Lines));
     }
-    let look = Instant::now(rt).map_err(|_| Trouble::Clock)?;
-    let spent = look.saturating_duration_since(begun);
+    let asked = now(rt)?;
+    let spent = asked.saturating_duration_since(begun);
     let rest = plan.length.map(|length| length.saturating_sub(spent));
     let pause = pause_before_look(plan.every, rest, looks, session.left);
     for _ in 0..u64::MAX {
-        let spent = begun.elapsed(rt).map_err(|_| Trouble::Clock)?;
-        if plan.ended.load(Ordering::SeqCst) || plan.length.is_some_and(|length| spent >= length) {
+        if plan.is_over(since(rt, begun)?) {
             return Ok(Some(Over::Asked));
         }
-        let waited = look.elapsed(rt).map_err(|_| Trouble::Clock)?;
-        if waited >= pause {
+        if since(rt, asked)? >= pause {
             return Ok(None);
         }
         thread::sleep(rt, Duration::from_millis(NAP));
     }
     Ok(None)
+}
+
+/// What the clock tells.
+fn now<R: Clock>(rt: &R) -> Result<Instant, Trouble> {
+    Instant::now(rt).map_err(|_| Trouble::Clock)
+}
+
+/// How long ago something was.
+fn since<R: Clock>(rt: &R, earlier: Instant) -> Result<Duration, Trouble> {
+    earlier.elapsed(rt).map_err(|_| Trouble::Clock)
 }
 
 /// How many looks there are lines for. A look takes a line, and one for each buffer that it may read. Kept for the end are `stop` and `status`, then a line for each buffer and for each

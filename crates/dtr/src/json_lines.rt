@@ -19,36 +19,66 @@ pub(crate) fn push_record_line(
     out.extend_from_slice(b"{\"cpu\":")?;
     push_number(out, cpu)?;
     if let Some((id, name)) = probe {
-        out.extend_from_slice(b",\"id\":")?;
-        push_number(out, id)?;
-        out.extend_from_slice(b",\"probe\":")?;
-        push_plain(out, &quoted(alloc, name)?)?;
+        push_probe(alloc, out, id, name)?;
     }
     out.extend_from_slice(b",\"values\":[")?;
+    push_values(alloc, out, &record.values)?;
+    out.extend_from_slice(b"]}\n")?;
+    Ok(())
+}
+
+/// Adds the fields of a probe: its identifier and its four names.
+fn push_probe(alloc: Global, out: &mut Vec<u8>, id: u64, name: &str) -> Result<(), Trouble> {
+    out.extend_from_slice(b",\"id\":")?;
+    push_number(out, id)?;
+    out.extend_from_slice(b",\"probe\":")?;
+    push_quoted(alloc, out, name)
+}
+
+/// Adds a text as JSON has it.
+fn push_quoted(alloc: Global, out: &mut Vec<u8>, text: &str) -> Result<(), Trouble> {
+    let json = quoted(alloc, text)?;
+    push_plain(out, &json)
+}
+
+/// Adds values, with commas between them.
+fn push_values(alloc: Global, out: &mut Vec<u8>, values: &[Recorded]) -> Result<(), Trouble> {
     let mut first = true;
-    for value in &record.values {
-        if !first {
-            out.push(b',')?;
-        }
+    for value in values {
+        push_comma(out, first)?;
         first = false;
         push_value(alloc, out, value)?;
     }
-    out.extend_from_slice(b"]}\n")?;
+    Ok(())
+}
+
+/// Adds a comma, but for the first of a list.
+fn push_comma(out: &mut Vec<u8>, first: bool) -> Result<(), Trouble> {
+    if !first {
+        out.push(b',')?;
+    }
     Ok(())
 }
 
 /// Adds a value: a number, a text, or the frames of a stack as a list.
 fn push_value(alloc: Global, out: &mut Vec<u8>, value: &Recorded) -> Result<(), Trouble> {
     match value {
-        Recorded::Number(number) => out.extend_from_slice(
-            Buffer::new().format(*number).as_bytes(),
-        )?,
-        Recorded::Text(bytes) => {
-            push_plain(out, &quoted_bytes(alloc, before_byte(0, bytes))?)?;
-        }
-        Recorded::Frames(frames) => push_frames(out, frames)?,
+        Recorded::Number(number) => push_signed(out, *number),
+        Recorded::Text(bytes) => push_text(alloc, out, bytes),
+        Recorded::Frames(frames) => push_frames(out, frames),
     }
+}
+
+/// Adds a number, which may have a sign.
+fn push_signed(out: &mut Vec<u8>, number: i64) -> Result<(), Trouble> {
+    out.extend_from_slice(Buffer::new().format(number).as_bytes())?;
     Ok(())
+}
+
+/// Adds a recorded text, which ends before its first zero.
+fn push_text(alloc: Global, out: &mut Vec<u8>, bytes: &[u8]) -> Result<(), Trouble> {
+    let json = quoted_bytes(alloc, before_byte(0, bytes))?;
+    push_plain(out, &json)
 }
 
 /// Adds the frames of a stack as a list.
@@ -56,9 +86,7 @@ fn push_frames(out: &mut Vec<u8>, frames: &[u64]) -> Result<(), Trouble> {
     out.push(b'[')?;
     let mut first = true;
     for frame in frames {
-        if !first {
-            out.push(b',')?;
-        }
+        push_comma(out, first)?;
         first = false;
         push_number(out, *frame)?;
     }
@@ -76,30 +104,38 @@ pub(crate) fn push_table_line(
 ) -> Result<(), Trouble> {
     let name = quoted(alloc, name)?;
     let function = quoted(alloc, function)?;
-    let rows = rows.to_string(alloc)?;
-    let line = format!(in alloc;
-        "{{\"aggregation\":{name},\"function\":{function},\"rows\":{rows}}}"
-    )?;
+    let line = table_line(alloc, &name, &function, rows)?;
     push_plain(out, &line)?;
     out.push(b'\n')?;
     Ok(())
 }
 
+/// The line of an aggregation whose name and function are JSON already.
+fn table_line(alloc: Global, name: &str, function: &str, rows: &Value) -> Result<String, Trouble> {
+    let rows = rows.to_string(alloc)?;
+    Ok(format!(in alloc; "{{\"aggregation\":{name},\"function\":{function},\"rows\":{rows}}}")?)
+}
+
 /// Adds JSON as plain ASCII: a letter from 0x7F on, which only a text has, is written as its escape.
 fn push_plain(out: &mut Vec<u8>, json: &str) -> Result<(), Trouble> {
     for letter in json.chars() {
-        let code = u32::from(letter);
-        if code < 0x7F {
-            out.push(code as u8)?;
-        } else if code < 0x1_0000 {
-            push_escape(out, code)?;
-        } else {
-            let rest = code - 0x1_0000;
-            push_escape(out, 0xD800 + rest / 0x400)?;
-            push_escape(out, 0xDC00 + rest % 0x400)?;
-        }
+        push_letter(out, u32::from(letter))?;
     }
     Ok(())
+}
+
+/// Adds a letter of this code as plain ASCII.
+fn push_letter(out: &mut Vec<u8>, code: u32) -> Result<(), Trouble> {
+    if code < 0x7F {
+        out.push(code as u8)?;
+        return Ok(());
+    }
+    if code < 0x1_0000 {
+        return push_escape(out, code);
+    }
+    let rest = code - 0x1_0000;
+    push_escape(out, 0xD800 + rest / 0x400)?;
+    push_escape(out, 0xDC00 + rest % 0x400)
 }
 
 /// Adds the escape of a number of 16 bits.

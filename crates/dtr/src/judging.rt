@@ -2,7 +2,8 @@
 
 use crate::fault::Trouble;
 use crate::output::{reason_of, tell, tell_path, write_answer};
-use dt_machine::{FaultNumber, Machine, MachineFault};
+use dt_machine::{FaultNumber, Found, Machine, MachineFault};
+use std::alloc::Global;
 use std::fs;
 use std::rt::Files;
 
@@ -14,13 +15,18 @@ pub(crate) fn judge_machine<R: Files + Print + Eprint + AllocGlobal>(
     let Some(machine) = read_machine(rt, path)? else {
         return Ok(1);
     };
+    answer_machine(rt, &machine)?;
+    Ok(0)
+}
+
+/// Says what a machine has.
+fn answer_machine<R: Print + AllocGlobal>(rt: &R, machine: &Machine) -> Result<(), Trouble> {
     let told = format!(in rt.alloc();
         "a machine of {} processors and {} accounts\n",
         machine.cpus(),
         machine.accounts().len()
     )?;
-    write_answer(rt, told.as_bytes())?;
-    Ok(0)
+    write_answer(rt, told.as_bytes())
 }
 
 /// The machine of a file. Where it is refused, that is told, and there is none.
@@ -51,17 +57,24 @@ pub(crate) fn read_file<R: Files + Eprint + AllocGlobal>(
 
 /// Tells why a machine file is refused.
 fn tell_fault<R: Eprint + AllocGlobal>(rt: &R, fault: MachineFault) -> Result<(), Trouble> {
-    let alloc = rt.alloc();
-    let why = rule_of(fault.number);
     let told = match fault.found {
-        Some(found) => format!(in alloc;
-            "dtr: machine refused {}: {found} is wrong: {why}\n",
-            fault.number
-        )?,
-        None => format!(in alloc; "dtr: machine refused {}: {why}\n", fault.number)?,
+        Some(found) => refusal_of_key(rt.alloc(), fault.number, found)?,
+        None => refusal_of_file(rt.alloc(), fault.number)?,
     };
     tell(rt, told.as_bytes());
     Ok(())
+}
+
+/// The line that tells which key of a machine file is wrong.
+fn refusal_of_key(alloc: Global, number: FaultNumber, found: Found) -> Result<String, Trouble> {
+    let why = rule_of(number);
+    Ok(format!(in alloc; "dtr: machine refused {number}: {found} is wrong: {why}\n")?)
+}
+
+/// The line that tells why a machine file is refused, where no key is told.
+fn refusal_of_file(alloc: Global, number: FaultNumber) -> Result<String, Trouble> {
+    let why = rule_of(number);
+    Ok(format!(in alloc; "dtr: machine refused {number}: {why}\n")?)
 }
 
 /// What the part of a machine file has to be that is refused by this number.

@@ -34,6 +34,15 @@ impl Enablings {
         }
     }
 
+    /// So many enablings, of which nothing is known.
+    fn unknown(alloc: Global, count: u64) -> Result<Self, Trouble> {
+        let mut enablings = Enablings::new(alloc);
+        for _ in 0..count.min(1024) {
+            enablings.push(alloc, Layout { fields: None }, 0, "")?;
+        }
+        Ok(enablings)
+    }
+
     /// Adds an enabling.
     pub(crate) fn push(
         &mut self,
@@ -66,20 +75,34 @@ impl Enablings {
         name: &str,
     ) -> Result<(), Trouble> {
         let place = (epid as usize).saturating_sub(1);
-        match (
+        let (Some(kept), Some(probe), Some(kept_name)) = (
             self.layouts.get_mut(place),
             self.probes.get_mut(place),
             self.names.get_mut(place),
-        ) {
-            (Some(kept), Some(probe), Some(kept_name)) => {
-                *kept = layout;
-                *probe = row_probe(alloc, id, name)?;
-                *kept_name = String::from_str(alloc, name)?;
-                Ok(())
-            }
-            _ => Err(Trouble::Strange),
-        }
+        ) else {
+            return Err(Trouble::Strange);
+        };
+        replace_layout(kept, layout);
+        replace_probe(alloc, probe, id, name)?;
+        replace_name(alloc, kept_name, name)
     }
+}
+
+/// Puts a layout in the place of another. As with a probe and a name, what was there is let go of here alone.
+fn replace_layout(kept: &mut Layout, layout: Layout) {
+    *kept = layout;
+}
+
+/// Puts a probe in the place of another.
+fn replace_probe(alloc: Global, kept: &mut RowProbe, id: u64, name: &str) -> Result<(), Trouble> {
+    *kept = row_probe(alloc, id, name)?;
+    Ok(())
+}
+
+/// Puts a name in the place of another.
+fn replace_name(alloc: Global, kept: &mut String, name: &str) -> Result<(), Trouble> {
+    *kept = String::from_str(alloc, name)?;
+    Ok(())
 }
 
 /// A probe as rows have it: with its function and its name, which are the last two of the four.
@@ -127,12 +150,8 @@ impl Learnt {
         told_once: bool,
         readings: Readings,
     ) -> Result<Self, Trouble> {
-        let mut enablings = Enablings::new(alloc);
-        for _ in 0..count.min(1024) {
-            enablings.push(alloc, Layout { fields: None }, 0, "")?;
-        }
         Ok(Learnt {
-            enablings,
+            enablings: Enablings::unknown(alloc, count)?,
             readings,
             listed: false,
             drops: Vec::new(alloc),
@@ -161,6 +180,15 @@ impl Learnt {
         } else {
             count.min(1)
         }
+    }
+
+    /// Learns all enablings from the probes that the account may enable, where that gives as many as the service has made.
+    fn learn_all(&mut self, alloc: Global, probes: &[Value]) -> Result<(), Trouble> {
+        let enablings = self.readings.enablings(alloc, probes)?;
+        if enablings.layouts.len() == self.enablings.layouts.len() {
+            self.enablings = enablings;
+        }
+        Ok(())
     }
 
     /// Whether enablings are described one by one: there are few, or all were asked for.
@@ -206,11 +234,7 @@ fn list_all<R: Print + Eprint + AllocGlobal>(
     let Some(probes) = reply.get("probes").and_then(|probes| probes.as_array()) else {
         return Err(Trouble::Strange);
     };
-    let enablings = known.readings.enablings(alloc, probes)?;
-    if enablings.layouts.len() == known.enablings.layouts.len() {
-        known.enablings = enablings;
-    }
-    Ok(())
+    known.learn_all(alloc, probes)
 }
 
 /// Asks for the layout and the probe of an enabling.
@@ -220,12 +244,25 @@ fn describe<R: Print + Eprint + AllocGlobal>(
     known: &mut Learnt,
     epid: u32,
 ) -> Result<(), Trouble> {
-    let alloc = rt.alloc();
+    let reply = ask_describe(rt.alloc(), session, epid)?;
+    accept_described(rt, &reply, epid)?;
+    keep_described(rt.alloc(), known, epid, &reply)
+}
+
+/// Asks for the layout and the probe of an enabling, and gives the reply.
+fn ask_describe(alloc: Global, session: &mut Session<'_>, epid: u32) -> Result<Value, Trouble> {
     let line = requests::with_number(alloc, "describe", "epid", u64::from(epid))?;
-    let reply = session.ask(alloc, &line)?;
-    let what = format!(in alloc; "enabling {epid} isn't described")?;
-    accepted(rt, &reply, &what, None)?;
-    keep_described(alloc, known, epid, &reply)
+    session.ask(alloc, &line)
+}
+
+/// Says why a reply refuses an enabling, where it does.
+fn accept_described<R: Print + Eprint + AllocGlobal>(
+    rt: &R,
+    reply: &Value,
+    epid: u32,
+) -> Result<(), Trouble> {
+    let what = format!(in rt.alloc(); "enabling {epid} isn't described")?;
+    accepted(rt, reply, &what, None)
 }
 
 /// Keeps what a reply tells of an enabling.

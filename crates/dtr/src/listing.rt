@@ -7,6 +7,8 @@ use crate::requests;
 use crate::session::Session;
 use crate::snapping::RowShape;
 use dt_front::{number_field, push_probe, push_probes_head, text_field};
+use serde_json::Value;
+use std::alloc::Global;
 use std::rt::Files;
 
 /// Writes the table of the probes that the account may enable and a description asks for, to standard output or to a file, which is made once they are answered.
@@ -17,28 +19,54 @@ pub(crate) fn list_probes<R: Files + Print + Eprint + AllocGlobal>(
     shape: RowShape,
     output: Option<&str>,
 ) -> Result<(), Trouble> {
-    let alloc = rt.alloc();
-    let line = requests::with_text(alloc, "list", "probe", description)?;
-    let reply = session.ask(alloc, &line)?;
+    let reply = ask_list(rt.alloc(), session, description)?;
     accepted(
         rt,
         &reply,
         "the description is refused",
         Some((description, shape.widths.messages)),
     )?;
+    let mut out = Vec::new(rt.alloc());
+    push_listed(rt.alloc(), &mut out, shape, &reply)?;
+    let mut file = create_output(rt, output)?;
+    write_out(rt, &mut file, &mut out)
+}
+
+/// Asks for the probes that a description asks for, and gives the reply.
+fn ask_list(alloc: Global, session: &mut Session<'_>, description: &str) -> Result<Value, Trouble> {
+    let line = requests::with_text(alloc, "list", "probe", description)?;
+    session.ask(alloc, &line)
+}
+
+/// Adds the table of the probes that a reply lists.
+fn push_listed(
+    alloc: Global,
+    out: &mut Vec<u8>,
+    shape: RowShape,
+    reply: &Value,
+) -> Result<(), Trouble> {
     let Some(probes) = reply.get("probes").and_then(|probes| probes.as_array()) else {
         return Err(Trouble::Strange);
     };
-    let mut out = Vec::new(alloc);
     if !shape.quiet {
-        push_probes_head(&mut out, shape.widths.page)?;
+        push_probes_head(out, shape.widths.page)?;
     }
     for probe in probes {
-        let (Some(id), Some(name)) = (number_field(probe, "id"), text_field(probe, "name")) else {
-            return Err(Trouble::Strange);
-        };
-        push_probe(alloc, &mut out, shape.widths.page, id, name.as_bytes())?;
+        push_listed_probe(alloc, out, shape.widths.page, probe)?;
     }
-    let mut file = create_output(rt, output)?;
-    write_out(rt, &mut file, &mut out)
+    Ok(())
+}
+
+/// Adds a listed probe's line.
+fn push_listed_probe(
+    alloc: Global,
+    out: &mut Vec<u8>,
+    page: usize,
+    probe: &Value,
+) -> Result<(), Trouble> {
+    let (Some(id), Some(name)) = (number_field(probe, "id"), text_field(probe, "name")) else {
+        return Err(Trouble::Strange);
+    };
+    push_probe(alloc, out, page, id, name.as_bytes())?;
+    Ok(())
 }

@@ -28,6 +28,7 @@ use checking::judge_trail;
 use enabling::{begin, set_up};
 use fault::Trouble;
 use following::{Plan, follow};
+use forms::Misfit;
 use input::watch_input;
 use judging::judge_machine;
 use learning::Learnt;
@@ -37,6 +38,7 @@ use page::{Terminals, Widths, widths_of};
 use reading::Readings;
 use session::Session;
 use snapping::RowShape;
+use std::alloc::Global;
 use std::io::{IsTerminal, Stdin, Write};
 use std::net::Net;
 use std::os::unix::net::UnixStream;
@@ -46,7 +48,7 @@ use std::thread::Threads;
 use std::time::Duration;
 use std::{env, fs};
 use streams::hold_streams;
-use summing::push_tables;
+use summing::{ListedAggregation, push_tables};
 use words::{Invocation, USAGE, tell_words};
 
 fn main(rt: HostRuntime) -> ExitCode {
@@ -75,20 +77,38 @@ fn execute<R: Files + Net + Env + Print + Eprint + AllocGlobal + Clock + Threads
     input: Stdin,
     terminals: Terminals,
 ) -> Result<u8, Trouble> {
-    let args = match env::args(rt) {
-        Ok(args) => args.collect::<Vec<String>>(rt.alloc())?,
-        Err(_) => return Err(tell_words(rt, b"a word isn't UTF-8")),
-    };
-    let words = args
-        .iter()
-        .map(|word| word.as_str())
-        .collect::<Vec<&str>>(rt.alloc())?;
-    match Invocation::read(rt, &words) {
+    let args = words_given(rt)?;
+    let words = words_lent(rt.alloc(), &args)?;
+    execute_given(rt, input, terminals, &words)
+}
+
+/// The words that the program is called with. The first is its own name.
+fn words_given<R: Env + Eprint + AllocGlobal>(rt: &R) -> Result<Vec<String>, Trouble> {
+    match env::args(rt) {
+        Ok(args) => Ok(args.collect::<Vec<String>>(rt.alloc())?),
+        Err(_) => Err(tell_words(rt, b"a word isn't UTF-8")),
+    }
+}
+
+/// The words as clap reads them.
+fn words_lent<'a>(alloc: Global, args: &'a [String]) -> Result<Vec<&'a str>, Trouble> {
+    Ok(
+        args.iter()
+            .map(|word| word.as_str())
+            .collect::<Vec<&str>>(alloc)?,
+    )
+}
+
+/// Reads the words, and does what they ask for. Gives the status.
+fn execute_given<R: Files + Net + Env + Print + Eprint + AllocGlobal + Clock + Threads>(
+    rt: &R,
+    input: Stdin,
+    terminals: Terminals,
+    words: &[&str],
+) -> Result<u8, Trouble> {
+    match Invocation::read(rt, words) {
         Ok(Some(words)) => execute_words(rt, input, terminals, &words),
-        Ok(None) => {
-            write_answer(rt, USAGE.as_bytes())?;
-            Ok(0)
-        }
+        Ok(None) => write_answer(rt, USAGE.as_bytes()).map(|()| 0),
         Err(fault) => Err(fault),
     }
 }
@@ -101,8 +121,7 @@ fn execute_words<R: Files + Net + Env + Print + Eprint + AllocGlobal + Clock + T
     words: &Invocation<'_>,
 ) -> Result<u8, Trouble> {
     if let Some(misfit) = words.misfit() {
-        let told = format!(in rt.alloc(); "{misfit}")?;
-        return Err(tell_words(rt, told.as_bytes()));
+        return Err(tell_misfit(rt, misfit));
     }
     if let Some(machine) = words.machine {
         return judge_machine(rt, machine);
@@ -116,6 +135,14 @@ fn execute_words<R: Files + Net + Env + Print + Eprint + AllocGlobal + Clock + T
     match (serve_words(rt, input, widths, words, path), words.output) {
         (Err(Trouble::Output), Some(file)) => Err(tell_path(rt, "can't write", file, "")),
         (answered, _) => answered,
+    }
+}
+
+/// Tells why the words are none of the program's forms, and gives the trouble that this is.
+fn tell_misfit<R: Eprint + AllocGlobal>(rt: &R, misfit: Misfit) -> Trouble {
+    match format!(in rt.alloc(); "{misfit}") {
+        Ok(told) => tell_words(rt, told.as_bytes()),
+        Err(_) => Trouble::Memory,
     }
 }
 
@@ -137,12 +164,24 @@ fn serve_words<R: Files + Net + Env + Print + Eprint + AllocGlobal + Clock + Thr
         return Err(tell_path(rt, "no service answers at", path, NO_SERVICE));
     };
     let mut session = Session::new(rt.alloc(), &stream)?;
-    if words.list {
-        let description = words.programs.first().copied().unwrap_or("");
-        list_probes(rt, &mut session, description, shape, words.output)?;
-        return Ok(0);
+    serve_session(rt, input, &mut session, words, shape, &programs)
+}
+
+/// Traces in a session, or lists probes, and gives the status.
+fn serve_session<R: Files + Print + Eprint + AllocGlobal + Clock + Threads>(
+    rt: &R,
+    input: Stdin,
+    session: &mut Session<'_>,
+    words: &Invocation<'_>,
+    shape: RowShape,
+    programs: &[String],
+) -> Result<u8, Trouble> {
+    if !words.list {
+        return trace(rt, input, session, words, shape, programs);
     }
-    trace(rt, input, &mut session, words, shape, &programs)
+    let description = words.programs.first().copied().unwrap_or("");
+    list_probes(rt, session, description, shape, words.output)?;
+    Ok(0)
 }
 
 /// What is added where nobody serves at a socket's path.
@@ -158,14 +197,17 @@ fn programs_of<R: Files + Eprint + AllocGlobal>(
         programs.push(String::from_str(rt.alloc(), text)?)?;
     }
     for path in &words.files {
-        match fs::read_to_string(rt, *path) {
-            Ok(text) => programs.push(text)?,
-            Err(fault) => {
-                return Err(tell_path(rt, "can't read", path, reason_of(fault.kind())));
-            }
-        }
+        programs.push(program_in(rt, path)?)?;
     }
     Ok(programs)
+}
+
+/// The text of a program's file. Where it can't be read, that is told.
+fn program_in<R: Files + Eprint + AllocGlobal>(rt: &R, path: &str) -> Result<String, Trouble> {
+    match fs::read_to_string(rt, path) {
+        Ok(text) => Ok(text),
+        Err(fault) => Err(tell_path(rt, "can't read", path, reason_of(fault.kind()))),
+    }
 }
 
 /// Traces, and gives the status with which a clause exited, or 0. The file of `-o` is made once all programs are accepted.
@@ -186,13 +228,56 @@ fn trace<R: Files + Print + Eprint + AllocGlobal + Clock + Threads>(
     let mut known = Learnt::new(alloc, count, switched, readings)?;
     // stop, status and close come beside the aggregations
     session.kept = (aggregations.len() as u64).saturating_add(4);
-    let mut file = create_output(rt, words.output)?;
-    begin(rt, session, count)?;
-    let exit = go_on(
-        rt, input, session, words, shape, records, &mut known, &mut file,
-    )?;
-    push_tables(rt, session, &aggregations, shape, &mut file)?;
-    let _closed = session.ask(alloc, "{\"cmd\":\"close\"}")?;
+    let setting = TraceSetting {
+        words,
+        shape,
+        aggregations: &aggregations,
+        records,
+        count,
+    };
+    trace_accepted(rt, input, session, setting, &mut known)
+}
+
+/// What is traced once all programs are accepted, and how it is shown.
+#[derive(Clone, Copy, Drop)]
+struct TraceSetting<'a> {
+    /// The program's words.
+    words: &'a Invocation<'a>,
+    /// How rows are written.
+    shape: RowShape,
+    /// The aggregations of the programs.
+    aggregations: &'a [ListedAggregation],
+    /// Whether a clause may leave records.
+    records: bool,
+    /// How many enablings there are.
+    count: u64,
+}
+
+/// Makes the file of `-o`, traces, and gives the status.
+fn trace_accepted<R: Files + Print + Eprint + AllocGlobal + Clock + Threads>(
+    rt: &R,
+    input: Stdin,
+    session: &mut Session<'_>,
+    setting: TraceSetting<'_>,
+    known: &mut Learnt,
+) -> Result<u8, Trouble> {
+    let mut file = create_output(rt, setting.words.output)?;
+    trace_into(rt, input, session, setting, known, &mut file)
+}
+
+/// Traces into the file of `-o`, if there is one, and gives the status.
+fn trace_into<R: Print + Eprint + AllocGlobal + Clock + Threads, F: Write>(
+    rt: &R,
+    input: Stdin,
+    session: &mut Session<'_>,
+    setting: TraceSetting<'_>,
+    known: &mut Learnt,
+    file: &mut Option<F>,
+) -> Result<u8, Trouble> {
+    begin(rt, session, setting.count)?;
+    let exit = go_on(rt, input, session, setting, known, file)?;
+    push_tables(rt, session, setting.aggregations, setting.shape, file)?;
+    let _closed = session.ask(rt.alloc(), "{\"cmd\":\"close\"}")?;
     Ok(status_of_exit(exit))
 }
 
@@ -201,20 +286,18 @@ fn go_on<R: Print + Eprint + AllocGlobal + Clock + Threads, F: Write>(
     rt: &R,
     input: Stdin,
     session: &mut Session<'_>,
-    words: &Invocation<'_>,
-    shape: RowShape,
-    records: bool,
+    setting: TraceSetting<'_>,
     known: &mut Learnt,
     file: &mut Option<F>,
 ) -> Result<Option<i64>, Trouble> {
     let ended = watch_input(rt, rt.alloc(), input)?;
     let plan = Plan {
-        every: words.every.unwrap_or(Duration::from_secs(1)),
-        length: words.length,
-        records,
-        readable: policy_in(&words.options) != "ring",
+        every: setting.words.every.unwrap_or(Duration::from_secs(1)),
+        length: setting.words.length,
+        records: setting.records,
+        readable: policy_in(&setting.words.options) != "ring",
         ended: &ended,
-        shape,
+        shape: setting.shape,
     };
     follow(rt, session, known, &plan, file).map_err(Trouble::in_tracing)
 }

@@ -28,14 +28,18 @@ pub(crate) fn write_out<R: Print, F: Write>(
     bytes: &mut Vec<u8>,
 ) -> Result<(), Trouble> {
     let written = match file {
-        Some(file) => file.write_all(bytes).and_then(|()| file.flush()),
-        None => {
-            let mut out = io::writer(rt);
-            out.write_all(bytes).and_then(|()| out.flush())
-        }
+        Some(file) => write_to(file, bytes),
+        None => write_answer(rt, bytes),
     };
     bytes.clear();
-    written.map_err(|_| Trouble::Output)
+    written
+}
+
+/// Writes bytes at once.
+fn write_to<W: Write>(out: &mut W, bytes: &[u8]) -> Result<(), Trouble> {
+    out.write_all(bytes)
+        .and_then(|()| out.flush())
+        .map_err(|_| Trouble::Output)
 }
 
 /// Writes bytes, which are text, to standard error. Where that fails too, the status is all that tells.
@@ -64,12 +68,18 @@ pub(crate) fn tell_path<R: Eprint + AllocGlobal>(
 /// The line that tells of a path, whose bytes a terminal can show.
 fn path_line(alloc: Global, what: &str, path: &str, more: &str) -> Result<Vec<u8>, Trouble> {
     let mut line = Vec::from_slice(alloc, b"dtr: ")?;
+    push_path(&mut line, what, path, more)?;
+    Ok(line)
+}
+
+/// Adds what isn't so of a path, the path, and what is added, and ends the line.
+fn push_path(line: &mut Vec<u8>, what: &str, path: &str, more: &str) -> Result<(), Trouble> {
     line.extend_from_slice(what.as_bytes())?;
     line.push(b' ')?;
-    push_shown(&mut line, path.as_bytes())?;
+    push_shown(line, path.as_bytes())?;
     line.extend_from_slice(more.as_bytes())?;
     line.push(b'\n')?;
-    Ok(line)
+    Ok(())
 }
 
 /// Why something can't be done with a file, as it stands after the file's path.
@@ -86,10 +96,7 @@ pub(crate) fn reason_of(kind: ErrorKind) -> &'static str {
     }
 }
 
-/// Writes to standard output what a file was judged.
+/// Writes bytes to standard output.
 pub(crate) fn write_answer<R: Print>(rt: &R, bytes: &[u8]) -> Result<(), Trouble> {
-    let mut out = io::writer(rt);
-    out.write_all(bytes)
-        .and_then(|()| out.flush())
-        .map_err(|_| Trouble::Output)
+    write_to(&mut io::writer(rt), bytes)
 }

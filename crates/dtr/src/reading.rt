@@ -98,16 +98,19 @@ fn is_described(clause: &Clause, names: &[u8]) -> bool {
 
 /// Whether a description asks for a probe of these four names: an empty field asks for nothing.
 fn asks_for(description: &Description, names: &[u8]) -> bool {
-    let after_provider = after_byte(b':', names);
-    let after_module = after_byte(b':', after_provider);
+    asks_for_module(description, names)
+        && asks_for_function(description, after_byte(b':', after_byte(b':', names)))
+}
+
+/// Whether a description asks for the first two of these names, a provider and a module.
+fn asks_for_module(description: &Description, names: &[u8]) -> bool {
+    let module = before_byte(b':', after_byte(b':', names));
     (description.provider.is_empty() || description.provider.matches(before_byte(b':', names)))
-        && (description.module.is_empty()
-            || description
-                .module
-                .matches(before_byte(b':', after_provider)))
-        && (description.function.is_empty()
-            || description
-                .function
-                .matches(before_byte(b':', after_module)))
-        && (description.name.is_empty() || description.name.matches(after_byte(b':', after_module)))
+        && (description.module.is_empty() || description.module.matches(module))
+}
+
+/// Whether a description asks for these last two names, a function and a name.
+fn asks_for_function(description: &Description, names: &[u8]) -> bool {
+    (description.function.is_empty() || description.function.matches(before_byte(b':', names)))
+        && (description.name.is_empty() || description.name.matches(after_byte(b':', names)))
 }

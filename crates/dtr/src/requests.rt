@@ -43,9 +43,14 @@ pub(crate) fn with_number(
 /// An `option`: a value of digits alone is a number, any other a text.
 pub(crate) fn option(alloc: Global, name: &str, value: &str) -> Result<String, Trouble> {
     let name = quoted(alloc, name)?;
-    let value = match value.parse::<u64>() {
-        Ok(number) if is_digits(value) => format!(in alloc; "{number}")?,
-        _ => quoted(alloc, value)?,
-    };
+    let value = option_value(alloc, value)?;
     Ok(format!(in alloc; "{{\"cmd\":\"option\",\"name\":{name},\"value\":{value}}}")?)
+}
+
+/// The value of an option as JSON has it.
+fn option_value(alloc: Global, value: &str) -> Result<String, Trouble> {
+    match value.parse::<u64>() {
+        Ok(number) if is_digits(value) => Ok(format!(in alloc; "{number}")?),
+        _ => quoted(alloc, value),
+    }
 }

@@ -41,14 +41,18 @@ impl<'a> Session<'a> {
 
     /// Asks a line, which is given without its newline, and reads the reply. A line that is refused for memory isn't counted, and is asked once more.
     pub(crate) fn ask(&mut self, alloc: Global, line: &str) -> Result<Value, Trouble> {
-        let mut whole = Vec::from_slice(alloc, line.as_bytes())?;
-        whole.push(b'\n')?;
+        let whole = with_newline(alloc, line)?;
         self.left = self.left.saturating_sub(1);
         let reply = self.exchange(alloc, &whole)?;
         if number_field(&reply, "error") != Some(u64::from(Refusal::Memory.number())) {
             return Ok(reply);
         }
-        match self.exchange(alloc, &whole) {
+        self.exchange_again(alloc, &whole)
+    }
+
+    /// Sends a line once more that was refused for memory, and reads the reply.
+    fn exchange_again(&mut self, alloc: Global, whole: &[u8]) -> Result<Value, Trouble> {
+        match self.exchange(alloc, whole) {
             // a service without memory for a session says so, and ends the connection
             Err(Trouble::Gone) => Err(Trouble::Unserved),
             answered => answered,
@@ -71,10 +75,22 @@ impl<'a> Session<'a> {
         if self.replies.read_until(b'\n', &mut line).is_err() || line.last() != Some(&b'\n') {
             return Err(Trouble::Gone);
         }
-        match Value::from_slice(alloc, &line) {
-            Ok(reply) => Ok(reply),
-            Err(fault) if fault.is_memory() => Err(Trouble::Memory),
-            Err(_) => Err(Trouble::Strange),
-        }
+        value_in(alloc, &line)
+    }
+}
+
+/// A line with its newline.
+fn with_newline(alloc: Global, line: &str) -> Result<Vec<u8>, Trouble> {
+    let mut whole = Vec::from_slice(alloc, line.as_bytes())?;
+    whole.push(b'\n')?;
+    Ok(whole)
+}
+
+/// The value that a line has as JSON.
+fn value_in(alloc: Global, line: &[u8]) -> Result<Value, Trouble> {
+    match Value::from_slice(alloc, line) {
+        Ok(reply) => Ok(reply),
+        Err(fault) if fault.is_memory() => Err(Trouble::Memory),
+        Err(_) => Err(Trouble::Strange),
     }
 }

@@ -9,7 +9,7 @@ use crate::page::Widths;
 use crate::requests;
 use crate::session::Session;
 use dt_front::{number_field, push_rows, push_rows_head, text_field};
-use dt_record::split;
+use dt_record::{Record, split};
 use serde_json::Value;
 use std::alloc::Global;
 
@@ -37,23 +37,56 @@ pub(crate) fn snap<R: Print + Eprint + AllocGlobal>(
     if session.is_short() {
         return tell_unread(rt, cpu);
     }
-    let line = requests::with_number(alloc, "snap", "cpu", cpu)?;
-    let reply = session.ask(alloc, &line)?;
-    let what = format!(in alloc; "the buffer of CPU {cpu} can't be read")?;
-    accepted(rt, &reply, &what, None)?;
-    let Some(digits) = text_field(&reply, "data") else {
-        return Err(Trouble::Strange);
-    };
-    let Ok(bytes) = hex::decode(alloc, digits.as_bytes()) else {
-        return Err(Trouble::Strange);
-    };
-    let fresh = fresh_in(known, cpu, &bytes)?;
-    if learn(rt, session, known, fresh)? {
-        push_records(alloc, known, cpu, shape, fresh, out)?;
-    } else {
-        tell_unread(rt, cpu)?;
-    }
+    let reply = ask_snap(alloc, session, cpu)?;
+    accept_snap(rt, &reply, cpu)?;
+    let bytes = bytes_in(alloc, &reply)?;
+    push_fresh(rt, session, known, cpu, shape, &bytes, out)?;
     tell_losses(rt, known, cpu, &reply)
+}
+
+/// Asks for the buffer of a processor, and gives the reply.
+fn ask_snap(alloc: Global, session: &mut Session<'_>, cpu: u64) -> Result<Value, Trouble> {
+    let line = requests::with_number(alloc, "snap", "cpu", cpu)?;
+    session.ask(alloc, &line)
+}
+
+/// Says why a reply refuses the buffer of a processor, where it does.
+fn accept_snap<R: Print + Eprint + AllocGlobal>(
+    rt: &R,
+    reply: &Value,
+    cpu: u64,
+) -> Result<(), Trouble> {
+    let what = format!(in rt.alloc(); "the buffer of CPU {cpu} can't be read")?;
+    accepted(rt, reply, &what, None)
+}
+
+/// The bytes of the buffer that a reply gives.
+fn bytes_in(alloc: Global, reply: &Value) -> Result<Vec<u8>, Trouble> {
+    let Some(digits) = text_field(reply, "data") else {
+        return Err(Trouble::Strange);
+    };
+    match hex::decode(alloc, digits.as_bytes()) {
+        Ok(bytes) => Ok(bytes),
+        Err(_) => Err(Trouble::Strange),
+    }
+}
+
+/// Adds the rows of those of a buffer's bytes that aren't written yet, or tells that these aren't shown.
+fn push_fresh<R: Print + Eprint + AllocGlobal>(
+    rt: &R,
+    session: &mut Session<'_>,
+    known: &mut Learnt,
+    cpu: u64,
+    shape: RowShape,
+    bytes: &[u8],
+    out: &mut Vec<u8>,
+) -> Result<(), Trouble> {
+    let fresh = fresh_in(known, cpu, bytes)?;
+    if learn(rt, session, known, fresh)? {
+        push_records(rt.alloc(), known, cpu, shape, fresh, out)
+    } else {
+        tell_unread(rt, cpu)
+    }
 }
 
 /// Tells that the records of a processor aren't shown, since the lines that are left are kept for the end.
@@ -90,26 +123,50 @@ fn push_records(
     let Some(records) = split(alloc, &known.enablings.layouts, bytes)? else {
         return Err(Trouble::Strange);
     };
-    if !shape.json {
-        if !shape.quiet && !known.headed && !records.is_empty() {
-            push_rows_head(out, shape.widths.page)?;
-            known.headed = true;
-        }
-        push_rows(
-            alloc,
-            out,
-            shape.widths.page,
-            shape.quiet,
-            cpu,
-            &known.enablings.probes,
-            &records,
-        )?;
-        return Ok(());
+    if shape.json {
+        push_lines(alloc, known, cpu, &records, out)
+    } else {
+        push_table_rows(alloc, known, cpu, shape, &records, out)
     }
-    for record in &records {
+}
+
+/// Adds a line of JSON for each record.
+fn push_lines(
+    alloc: Global,
+    known: &Learnt,
+    cpu: u64,
+    records: &[Record],
+    out: &mut Vec<u8>,
+) -> Result<(), Trouble> {
+    for record in records {
         let place = (record.epid as usize).saturating_sub(1);
         push_record_line(alloc, out, cpu, known.enablings.probe_at(place), record)?;
     }
+    Ok(())
+}
+
+/// Adds a row for each record, and the head, where none was written yet.
+fn push_table_rows(
+    alloc: Global,
+    known: &mut Learnt,
+    cpu: u64,
+    shape: RowShape,
+    records: &[Record],
+    out: &mut Vec<u8>,
+) -> Result<(), Trouble> {
+    if !shape.quiet && !known.headed && !records.is_empty() {
+        push_rows_head(out, shape.widths.page)?;
+        known.headed = true;
+    }
+    push_rows(
+        alloc,
+        out,
+        shape.widths.page,
+        shape.quiet,
+        cpu,
+        &known.enablings.probes,
+        records,
+    )?;
     Ok(())
 }
 
@@ -131,16 +188,28 @@ fn tell_losses<R: Print + Eprint + AllocGlobal>(
         drops.saturating_sub(before)
     };
     if fresh > 0 {
-        let told = format!(in rt.alloc(); "dtr: {fresh} records dropped on CPU {cpu}\n")?;
-        tell(rt, told.as_bytes());
+        tell_drops(rt, cpu, fresh)?;
     }
     if filled && before == 0 {
-        let told = format!(in rt.alloc();
-            "dtr: the buffer of CPU {cpu} is full: later records aren't kept\n"
-        )?;
-        tell(rt, told.as_bytes());
+        tell_full(rt, cpu)?;
     }
     keep(&mut known.drops, cpu, if filled { 1 } else { drops })
+}
+
+/// Tells how many records were dropped on a processor.
+fn tell_drops<R: Eprint + AllocGlobal>(rt: &R, cpu: u64, drops: u64) -> Result<(), Trouble> {
+    let told = format!(in rt.alloc(); "dtr: {drops} records dropped on CPU {cpu}\n")?;
+    tell(rt, told.as_bytes());
+    Ok(())
+}
+
+/// Tells that the buffer of a processor is filled.
+fn tell_full<R: Eprint + AllocGlobal>(rt: &R, cpu: u64) -> Result<(), Trouble> {
+    let told = format!(in rt.alloc();
+        "dtr: the buffer of CPU {cpu} is full: later records aren't kept\n"
+    )?;
+    tell(rt, told.as_bytes());
+    Ok(())
 }
 
 /// Keeps a number of a processor.

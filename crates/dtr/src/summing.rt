@@ -9,8 +9,8 @@ use crate::session::Session;
 use crate::snapping::RowShape;
 use dt_aggfn::Bounds;
 use dt_front::{
-    RowCount, counts_in, counts_total, key_in, level_rows, power_rows, push_key, push_number_line,
-    push_picture, push_title, rows_total, signed_in, text_field,
+    KeyColumn, RowCount, counts_in, counts_total, key_in, level_rows, power_rows, push_key,
+    push_number_line, push_picture, push_title, rows_total, signed_in, text_field,
 };
 use dt_lang::{Call, Clause, Statement};
 use serde_json::Value;
@@ -36,18 +36,30 @@ pub(crate) fn add_of_clause(
             let Ok(name) = str::from_utf8(aggregation.name.as_bytes()) else {
                 return Err(Trouble::Strange);
             };
-            if !has_name(found, name) {
-                let bounds = match &aggregation.call {
-                    Call::Lquantize(_, bounds) => Some(*bounds),
-                    _ => None,
-                };
-                found.push(ListedAggregation {
-                    name: String::from_str(alloc, name)?,
-                    bounds,
-                })?;
-            }
+            add_named(alloc, found, name, &aggregation.call)?;
         }
     }
+    Ok(())
+}
+
+/// Adds an aggregation of this name, which is given this call, where none is there.
+fn add_named(
+    alloc: Global,
+    found: &mut Vec<ListedAggregation>,
+    name: &str,
+    call: &Call,
+) -> Result<(), Trouble> {
+    if has_name(found, name) {
+        return Ok(());
+    }
+    let bounds = match call {
+        Call::Lquantize(_, bounds) => Some(*bounds),
+        _ => None,
+    };
+    found.push(ListedAggregation {
+        name: String::from_str(alloc, name)?,
+        bounds,
+    })?;
     Ok(())
 }
 
@@ -65,7 +77,7 @@ fn has_name(found: &[ListedAggregation], name: &str) -> bool {
 pub(crate) fn push_tables<R: Print + Eprint + AllocGlobal, F: Write>(
     rt: &R,
     session: &mut Session<'_>,
-    aggregations: &Vec<ListedAggregation>,
+    aggregations: &[ListedAggregation],
     shape: RowShape,
     file: &mut Option<F>,
 ) -> Result<(), Trouble> {
@@ -85,12 +97,40 @@ fn push_table<R: Print + Eprint + AllocGlobal>(
     shape: RowShape,
     out: &mut Vec<u8>,
 ) -> Result<(), Trouble> {
-    let alloc = rt.alloc();
-    let line = requests::with_text(alloc, "agg", "name", &aggregation.name)?;
-    let reply = session.ask(alloc, &line)?;
-    let what = format!(in alloc; "the aggregation @{} can't be read", aggregation.name)?;
-    accepted(rt, &reply, &what, None)?;
-    let (Some(function), Some(rows)) = (text_field(&reply, "fn"), reply.get("rows")) else {
+    let reply = ask_table(rt, session, &aggregation.name)?;
+    accept_table(rt, &reply, &aggregation.name)?;
+    push_answered(rt.alloc(), aggregation, shape, &reply, out)
+}
+
+/// Asks for an aggregation, and gives the reply.
+fn ask_table<R: AllocGlobal>(
+    rt: &R,
+    session: &mut Session<'_>,
+    name: &str,
+) -> Result<Value, Trouble> {
+    let line = requests::with_text(rt.alloc(), "agg", "name", name)?;
+    session.ask(rt.alloc(), &line)
+}
+
+/// Says why a reply refuses an aggregation, where it does.
+fn accept_table<R: Print + Eprint + AllocGlobal>(
+    rt: &R,
+    reply: &Value,
+    name: &str,
+) -> Result<(), Trouble> {
+    let what = format!(in rt.alloc(); "the aggregation @{name} can't be read")?;
+    accepted(rt, reply, &what, None)
+}
+
+/// Adds the table of an aggregation that a reply gives.
+fn push_answered(
+    alloc: Global,
+    aggregation: &ListedAggregation,
+    shape: RowShape,
+    reply: &Value,
+    out: &mut Vec<u8>,
+) -> Result<(), Trouble> {
+    let (Some(function), Some(rows)) = (text_field(reply, "fn"), reply.get("rows")) else {
         return Err(Trouble::Strange);
     };
     if shape.json {
@@ -125,8 +165,20 @@ fn push_row(
     let Some(key) = key_in(alloc, key)? else {
         return Err(Trouble::Strange);
     };
+    push_value(alloc, page, aggregation.bounds, &key, value, out)
+}
+
+/// Adds a row's number with its key, or its distribution below its key.
+fn push_value(
+    alloc: Global,
+    page: usize,
+    bounds: Option<Bounds>,
+    key: &[KeyColumn],
+    value: &Value,
+    out: &mut Vec<u8>,
+) -> Result<(), Trouble> {
     if let Some(number) = signed_in(value) {
-        push_number_line(alloc, out, &key, number)?;
+        push_number_line(alloc, out, key, number)?;
         return Ok(());
     }
     let Some(counts) = value.as_array() else {
@@ -135,11 +187,17 @@ fn push_row(
     let Some(counts) = counts_in(alloc, counts)? else {
         return Err(Trouble::Strange);
     };
+    push_key_line(alloc, out, key)?;
+    push_distribution(alloc, page, bounds, &counts, out)
+}
+
+/// Adds the line of a key that has parts.
+fn push_key_line(alloc: Global, out: &mut Vec<u8>, key: &[KeyColumn]) -> Result<(), Trouble> {
     if !key.is_empty() {
-        push_key(alloc, out, &key)?;
+        push_key(alloc, out, key)?;
         out.push(b'\n')?;
     }
-    push_distribution(alloc, page, aggregation.bounds, &counts, out)
+    Ok(())
 }
 
 /// Adds the picture of a distribution. Counts of rows that the function doesn't have are none that dtr understands.

@@ -54,32 +54,66 @@ impl<'a> Invocation<'a> {
             return Err(Trouble::Memory);
         };
         match command.try_get_matches_from(words) {
-            Ok(given) => match Invocation::of(rt, &given) {
-                Ok(invocation) => Ok(Some(invocation)),
-                Err(fault) => Err(fault),
-            },
+            Ok(given) => Invocation::found(rt, &given),
             Err(error) if error.kind() == ErrorKind::DisplayHelp => Ok(None),
             Err(error) => Err(unread_words(rt, &error)),
+        }
+    }
+
+    /// What clap found in the words, which don't ask for help.
+    fn found<R: Eprint + AllocGlobal>(
+        rt: &R,
+        given: &ArgMatches<'a>,
+    ) -> Result<Option<Self>, Trouble> {
+        match Invocation::of(rt, given) {
+            Ok(invocation) => Ok(Some(invocation)),
+            Err(fault) => Err(fault),
         }
     }
 
     /// What clap found in the words.
     fn of<R: Eprint + AllocGlobal>(rt: &R, given: &ArgMatches<'a>) -> Result<Self, Trouble> {
         let alloc = rt.alloc();
+        let programs = all_of(alloc, given, "program")?;
+        let files = all_of(alloc, given, "script")?;
+        let options = options_of(rt, given)?;
+        let numbers = Numbers::of(rt, given)?;
         Ok(Invocation {
             path: given.get_str("path"),
             list: given.get_flag("list"),
-            programs: all_of(alloc, given, "program")?,
-            files: all_of(alloc, given, "script")?,
-            options: options_of(rt, given)?,
+            programs,
+            files,
+            options,
             quiet: given.get_flag("quiet"),
             json: given.get_flag("json"),
             output: given.get_str("output"),
+            every: numbers.every,
+            length: numbers.length,
+            width: numbers.width,
+            machine: given.get_str("machine"),
+            trail: given.get_str("trail"),
+        })
+    }
+}
+
+/// Those of the program's words that have a number. They are read apart, so that the vectors are let go of at one `?` and not at three.
+#[derive(Clone, Copy, Drop)]
+struct Numbers {
+    /// How long the program waits between two looks at least.
+    every: Option<Duration>,
+    /// For how long it traces.
+    length: Option<Duration>,
+    /// How wide the page is.
+    width: Option<usize>,
+}
+
+impl Numbers {
+    /// The numbers in what clap found.
+    fn of<R: Eprint + AllocGlobal>(rt: &R, given: &ArgMatches<'_>) -> Result<Self, Trouble> {
+        Ok(Numbers {
             every: every_in(rt, given.get_str("every"))?,
             length: seconds_in(rt, "--for", given.get_str("for"))?,
             width: width_in(rt, given.get_str("width"))?,
-            machine: given.get_str("machine"),
-            trail: given.get_str("trail"),
         })
     }
 }
@@ -204,20 +238,49 @@ fn width_in<R: Eprint + AllocGlobal>(rt: &R, word: Option<&str>) -> Result<Optio
     }
 }
 
-/// The words that clap reads.
+/// The words that clap reads. They are added a few at a time, since each `?` of a long chain costs the proof much.
 fn program<'a>(alloc: Global) -> Result<Command<'a>, AllocError> {
-    Command::new(alloc, "dtr")
+    let command = with_service(alloc, Command::new(alloc, "dtr"))?;
+    let command = with_programs(alloc, command)?;
+    let command = with_output(alloc, command)?;
+    let command = with_numbers(alloc, command)?;
+    with_judged(alloc, command)
+}
+
+/// Adds the words that say which service is asked, and that its probes are listed.
+fn with_service<'a>(alloc: Global, command: Command<'a>) -> Result<Command<'a>, AllocError> {
+    command
         .arg(Arg::new(alloc, "path").action(ArgAction::Set))?
-        .arg(flag(alloc, "list").short('l'))?
+        .arg(flag(alloc, "list").short('l'))
+}
+
+/// Adds the words that say what is traced.
+fn with_programs<'a>(alloc: Global, command: Command<'a>) -> Result<Command<'a>, AllocError> {
+    command
         .arg(values(alloc, "program", "PROGRAM").short('n'))?
         .arg(values(alloc, "script", "FILE").short('s'))?
-        .arg(values(alloc, "option", "OPTION=VALUE").short('x'))?
+        .arg(values(alloc, "option", "OPTION=VALUE").short('x'))
+}
+
+/// Adds the words that say what is written, and where.
+fn with_output<'a>(alloc: Global, command: Command<'a>) -> Result<Command<'a>, AllocError> {
+    command
         .arg(flag(alloc, "quiet").short('q'))?
         .arg(value(alloc, "output", "FILE").short('o'))?
-        .arg(flag(alloc, "json").long("json"))?
+        .arg(flag(alloc, "json").long("json"))
+}
+
+/// Adds the words that have a number: times, and the width of the page.
+fn with_numbers<'a>(alloc: Global, command: Command<'a>) -> Result<Command<'a>, AllocError> {
+    command
         .arg(value(alloc, "every", "SECONDS").long("every"))?
         .arg(value(alloc, "for", "SECONDS").long("for"))?
-        .arg(value(alloc, "width", "COLUMNS").long("width"))?
+        .arg(value(alloc, "width", "COLUMNS").long("width"))
+}
+
+/// Adds the words that name a file to be judged.
+fn with_judged<'a>(alloc: Global, command: Command<'a>) -> Result<Command<'a>, AllocError> {
+    command
         .arg(value(alloc, "machine", "FILE").long("machine"))?
         .arg(value(alloc, "trail", "MACHINE").long("trail"))
 }
