@@ -29,7 +29,7 @@ impl NamedSeats<'_> {
 
     /// Takes out the seat of the least number that is still to come, with its life.
     pub fn pop_first(&mut self) -> Option<(Seat, u64)>
-        ensures { MatchOption result ((seat : ℕ) → life_left self.old seat ≡ None)
+        ensures { MatchOption result (((seat : ℕ) → life_left self.old seat ≡ None) × ((seat : ℕ) → life_left self.new seat ≡ None))
             (λ first. (life_left self.old first.0 ≡ Some first.1)
             × ((seat : ℕ) → seat < first.0 → life_left self.old seat ≡ None)
             × ((seat : ℕ) → life_left self.new seat ≡ (if seat == first.0 then None else life_left self.old seat))) }
@@ -47,6 +47,10 @@ impl NamedSeats<'_> {
         ensures none { ((place : ℕ) → has_bit self.new.left place ≡ false) → (seat : ℕ) → life_left self.new seat ≡ None }
     {
         if !self.left.is_empty() {
+            return;
+        }
+        // a few sessions are all at seats of the first word: then no other is gone over
+        if self.mask.seats.is_of_first_word() {
             return;
         }
         for word in self.word + 1..SEAT_WORDS {

@@ -112,4 +112,4 @@ returns-clause-offered g c =
     let inv = c.seats.invariant in
     offered_same g.J.Traced.contents c.args.context.now.firing.now c.args.mask.now c.args.reader.now.seen c.args.followers.now.items
     _ (has c.seats.missed) c.seats.held.items c.seats.followers.items c.seats.reader.told
-    (λ seat. sym (ap (λ (o : Option ℕ). is_some o || has c.seats.missed seat) (c.in_default.ensures seat))) inv.offered
+    (λ seat. sym (ap (λ (o : Option ℕ). is_some o || has c.seats.missed seat) (c.in_default.ensures.0 seat))) inv.offered
