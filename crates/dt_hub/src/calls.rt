@@ -40,14 +40,18 @@ impl<J: HubSite> Hub<J> {
         cpu_seat.ahead = read_ahead(&self.machine, cpu, place, cpu_seat.ahead);
         // read before the look: what is published after that is counted later, and looked for by a later firing
         let changes = self.changes.load(Ordering::SeqCst);
-        let Ok(found) = cpu_seat
+        let Ok(()) = cpu_seat
             .naming
             .look(&mut cpu_seat.reader, &self.machine, firing, changes)
         else {
             return Fired::Refused;
         };
         note_down(&self.facts, &mut cpu_seat.log, &cpu_seat.followers);
-        if let Some(context) = found {
+        if !cpu_seat.naming.mask().is_empty() {
+            // a firing of a script belongs to the machine
+            let Some(context) = self.machine.context(firing) else {
+                unreachable!()
+            };
             self.offer_to_named(
                 rt,
                 &context,

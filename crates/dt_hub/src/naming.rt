@@ -1,13 +1,12 @@
 //! Which seats a processor's last look named.
-ghost use Rattle.std.specs.Prelude.{◌≡◌, ℕ, None, IfNone, IfOk, IfSome, IsTrue, OnErr, OnOk};
+ghost use Rattle.std.specs.Prelude.{◌≡◌, ℕ, None, IsTrue, OnErr, OnOk};
 ghost use mathlib.Core.List.{IsPrefix};
 ghost use Rattle.dt_chain.specs.Chains.{IsMaskAfter};
 ghost use Rattle.dt_chain.specs.Seats.{life_at};
-ghost use Rattle.dt_machine.specs.Context.{IsContext};
 
 use dt_chain::{ChainReader, Front, LookRefused, SeatMask};
 use dt_cred::Mode;
-use dt_machine::{Context, Firing, Machine};
+use dt_machine::{Firing, Machine};
 use dt_seat::HubSite;
 use std::marker::Model;
 
@@ -123,66 +122,55 @@ impl<J: HubSite> Naming<J> {
         is_all_known(&last.front, reader)
     }
 
-    /// The seats that a look names for a firing, as [`ChainReader::look_into`] has it, which is asked only where the last look doesn't serve. `changes` is
-    /// how often what is published may have changed by now.
+    /// Names the seats that a look names for a firing: those that were named last, where the last look serves, and else by a look ([`ChainReader::look_into`]).
+    /// `changes` is how often what is published may have changed by now.
     ///
     /// `Err`: there was no entry, and nothing is known otherwise. Nobody is named.
     #[inline(always)]
-    pub(crate) fn look<'a>(
+    pub(crate) fn look(
         &mut self,
         reader: &mut ChainReader<J>,
-        machine: &'a Machine,
-        firing: &'a Firing,
+        machine: &Machine,
+        firing: &Firing,
         changes: u64,
-    ) -> Result<Option<Context<'a>>, LookRefused>
+    ) -> Result<(), LookRefused>
         requires machine { machine.now ≡ J.contents }
         ensures mask { OnOk result (IsMaskAfter J.contents.registry reader.new.seen firing.now self.new) }
         ensures seen { OnOk result (IsPrefix reader.old.seen reader.new.seen) }
         ensures told { OnOk result (IsPrefix reader.old.told reader.new.seen) }
         ensures all { OnOk result (reader.new.told ≡ reader.new.seen) }
-        ensures context { IfOk result (λ found. IfSome found (λ context.
-            IsContext J.contents.registry context × (context.firing.now ≡ firing.now))) }
-        ensures none { IfOk result (λ found. IfNone found ((seat : ℕ) → life_at self.new seat ≡ None)) }
         ensures refused { OnErr result (reader.new ≡ reader.old) }
         ensures nobody { OnErr result ((seat : ℕ) → life_at self.new seat ≡ None) }
     {
         if self.serves(reader, firing, changes) {
-            if self.mask.is_empty() {
-                return Ok(None);
-            }
-            if let Some(context) = machine.context(firing) {
-                return Ok(Some(context));
-            }
+            return Ok(());
         }
         self.look_anew(reader, machine, firing, changes)
     }
 
     /// The same, where the processor looks.
-    fn look_anew<'a>(
+    fn look_anew(
         &mut self,
         reader: &mut ChainReader<J>,
-        machine: &'a Machine,
-        firing: &'a Firing,
+        machine: &Machine,
+        firing: &Firing,
         changes: u64,
-    ) -> Result<Option<Context<'a>>, LookRefused>
+    ) -> Result<(), LookRefused>
         requires machine { machine.now ≡ J.contents }
         ensures mask { OnOk result (IsMaskAfter J.contents.registry reader.new.seen firing.now self.new) }
         ensures seen { OnOk result (IsPrefix reader.old.seen reader.new.seen) }
         ensures told { OnOk result (IsPrefix reader.old.told reader.new.seen) }
         ensures all { OnOk result (reader.new.told ≡ reader.new.seen) }
-        ensures context { IfOk result (λ found. IfSome found (λ context.
-            IsContext J.contents.registry context × (context.firing.now ≡ firing.now))) }
-        ensures none { IfOk result (λ found. IfNone found ((seat : ℕ) → life_at self.new seat ≡ None)) }
         ensures refused { OnErr result (reader.new ≡ reader.old) }
         ensures nobody { OnErr result ((seat : ℕ) → life_at self.new seat ≡ None) }
     {
         self.last = None;
-        let found = reader.look_into(machine, firing, &mut self.mask)?;
+        let _found = reader.look_into(machine, firing, &mut self.mask)?;
         self.last = Some(LastLook {
             front: reader.seen(),
             kind: FiringKind::of(firing),
             changes,
         });
-        Ok(found)
+        Ok(())
     }
 }

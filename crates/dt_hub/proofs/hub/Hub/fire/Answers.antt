@@ -11,11 +11,18 @@ use Rattle.dt_facts.specs.laws.Beginnings.{prefix_self}
 use Rattle.dt_hub.proofs.Publications.{known_unnamed}
 use Rattle.dt_hub.proofs.Tracks.{all_writes, counts_said, log_longer, passed_at}
 use Rattle.dt_hub.proofs.hub.Hub.fire.Goals as goal
-use Rattle.dt_hub.proofs.hub.Hub.fire.Goals.{in-Some-found, in_default-found}
+use Rattle.dt_hub.proofs.hub.Hub.fire.Goals.{then-not-is_empty+in-Some-context, else-not-is_empty}
 use Rattle.dt_hub.proofs.Places.{at_seat_next}
 use Rattle.dt_hub.specs.Processors.{AreAtSeats, AreTrackedBy, IsAtSeat, knew_at_seats, places_in}
 use Rattle.dt_life.specs.laws.Options.{if_some_map}
 use Rattle.dt_machine.specs.Registry.{firing_at}
+
+pub unreachable-requires : goal.unreachable-requires
+unreachable-requires g c =
+    let contents = g.J.Traced.contents in
+    let firing = c.in-Some.firing.now in
+    let script : firing_at contents.scripts firing.cpu firing.place ≡ Some firing = search rules in
+    search rules
 
 pub invariant_of-cpu_seat-2 : goal.invariant_of-cpu_seat-2
 invariant_of-cpu_seat-2 g c =
@@ -35,9 +42,9 @@ invariant_of-cpu_seat-2 g c =
     let all : reader.told ≡ reader.seen = c.in-Ok.ensures.all in
     let before : AreTrackedBy contents reader.seen log start =
     all_writes contents inside.reader.told reader.seen log start c.in-Ok.ensures.told inv.tracked in
-    elim c.match-found.branch [
-      | in-Some-found w ↦
-          let same : w.in-Some-found.context.firing.now ≡ firing = search rules in
+    elim c.if-not-is_empty.branch [
+      | then-not-is_empty+in-Some-context w ↦
+          let same : w.in-Some-context.context.firing.now ≡ firing = search rules in
           rw w.cpu_seat-inside-is (record {
             there = inv.there;
             seats = rw (same, cpu_is, place_is) at w.offer_to_named.ensures.seats;
@@ -47,7 +54,7 @@ invariant_of-cpu_seat-2 g c =
             tracked = rw more (w.offer_to_named.ensures.tracked log
                 (inv.places ∙ sym place_is ∙ ap (λ (f : Firing). f.place) (sym same)) before);
           })
-      | in_default-found w ↦ rw w.cpu_seat-inside-is (record {
+      | else-not-is_empty w ↦ rw w.cpu_seat-inside-is (record {
         there = inv.there;
         seats = record {
           many = inv.seats.many;
@@ -60,7 +67,7 @@ invariant_of-cpu_seat-2 g c =
         tracked =
             let look : IsMaskAfter contents.registry reader.seen firing c.look.new.self = c.in-Ok.ensures.mask in
             let begun : AreAtSeats firing.cpu firing.place start = rw (cpu_is, place_is) inv.seats in
-            let unnamed : (seat : ℕ) → life_at c.look.new.self seat ≡ None = search rules in
+            let unnamed : (seat : ℕ) → life_at c.look.new.self seat ≡ None = rw c.mask.ensures at (c.is_empty.ensures.0 w.if-not-is_empty.false) in
             rw more (λ seat. passed_at contents reader.seen firing c.look.new.self start log script look (inv.places ∙ sym place_is) begun before reader.told
             (subst (λ (l : List Write). IsPrefix reader.seen l) (sym all) (prefix_self reader.seen)) seat (unnamed seat));
       })
@@ -72,8 +79,8 @@ returns g c =
     let inside = c.cpu_seat.inside in
     let log = places_in inside.log.fact in
     let counts = counts_said contents inside.reader.told log inside.followers.items c.cpu_seat.invariant.tracked in
-    elim c.match-found.branch [
-      | in-Some-found w ↦ rw (← c.cpu_seat.view_is, w.cpu_seat-inside-is) (record {
+    elim c.if-not-is_empty.branch [
+      | then-not-is_empty+in-Some-context w ↦ rw (← c.cpu_seat.view_is, w.cpu_seat-inside-is) (record {
         firing = c.in-Some.firing.now;
         looks = search rules;
         cpu = search rules;
@@ -83,7 +90,7 @@ returns g c =
         published = search rules;
         counts = counts;
       })
-      | in_default-found w ↦ rw (← c.cpu_seat.view_is, w.cpu_seat-inside-is) (record {
+      | else-not-is_empty w ↦ rw (← c.cpu_seat.view_is, w.cpu_seat-inside-is) (record {
         firing = c.in-Some.firing.now;
         looks = search rules;
         cpu = search rules;
@@ -91,7 +98,7 @@ returns g c =
         log = search rules;
         each = search rules;
         published =
-            let unnamed : (seat : ℕ) → life_at c.look.new.self seat ≡ None = search rules in
+            let unnamed : (seat : ℕ) → life_at c.look.new.self seat ≡ None = rw c.mask.ensures at (c.is_empty.ensures.0 w.if-not-is_empty.false) in
             λ seat. known_unnamed contents c.look.new.self seat inside.followers.items c.look.new.reader.told (unnamed seat);
         counts = counts;
       })

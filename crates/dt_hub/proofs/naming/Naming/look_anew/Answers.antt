@@ -14,7 +14,7 @@ invariant_of-self-2 g c = λ last is.
     let firing = c.args.firing.now in
     let mask = c.look_into.new.mask in
     let here = subst (λ (contents : Contents). IsMaskAfter contents.registry c.look_into.new.self.seen firing mask) c.requires.machine
-    c.in_ok-found.ensures.mask in
+    c.in_ok-_found.ensures.mask in
     let look = subst (λ (front : List Write). IsMaskAfter registry front firing mask) (sym c.seen.ensures) here in
     let serves : Serves registry mask c.seen.result c.of.result = λ other kind.
     alike_serve registry c.of.result firing other c.of.ensures kind (reverse c.seen.result) (life_at mask) look in
