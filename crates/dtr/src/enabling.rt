@@ -7,7 +7,7 @@ use crate::session::Session;
 use crate::words::Invocation;
 use dt_front::{ToldRefusal, number_field, push_caret, push_number, push_shown};
 use serde_json::Value;
-use std::alloc::Global;
+use std::alloc::{AllocError, Global};
 
 /// The number by which a service tells who connects that all its seats are taken.
 const FULL: u64 = 17;
@@ -41,20 +41,9 @@ fn set_option<R: Print + Eprint + AllocGlobal>(
     name: &str,
     value: &str,
 ) -> Result<(), Trouble> {
-    let reply = ask_option(rt.alloc(), session, name, value)?;
-    let told = format!(in rt.alloc(); "-x {name}={value}")?;
-    accepted(rt, &reply, told.as_str(), None)
-}
-
-/// Asks for an option to be set, and gives the reply.
-fn ask_option(
-    alloc: Global,
-    session: &mut Session<'_>,
-    name: &str,
-    value: &str,
-) -> Result<Value, Trouble> {
-    let line = requests::option(alloc, name, value)?;
-    session.ask(alloc, &line)
+    let alloc = rt.alloc();
+    let reply = session.ask_made(alloc, requests::option(alloc, name, value))?;
+    accepted_as(rt, &reply, format!(in alloc; "-x {name}={value}"))
 }
 
 /// What is told of the program at this place where it is refused: the files of `-s` come after the texts of `-n`.
@@ -89,15 +78,11 @@ fn enable<R: Print + Eprint + AllocGlobal>(
     program: &str,
     refused: &str,
 ) -> Result<u64, Trouble> {
-    let reply = ask_enable(rt.alloc(), session, program)?;
+    let alloc = rt.alloc();
+    let line = requests::with_text(alloc, "enable", "text", program);
+    let reply = session.ask_made(alloc, line)?;
     accepted(rt, &reply, refused, Some((program, width)))?;
     number_field(&reply, "count").ok_or(Trouble::Strange)
-}
-
-/// Asks for a program to be enabled, and gives the reply.
-fn ask_enable(alloc: Global, session: &mut Session<'_>, program: &str) -> Result<Value, Trouble> {
-    let line = requests::with_text(alloc, "enable", "text", program)?;
-    session.ask(alloc, &line)
 }
 
 /// Begins to trace, and says how many probes matched.
@@ -132,6 +117,16 @@ pub(crate) fn accepted<R: Print + Eprint + AllocGlobal>(
     let told = explained(rt.alloc(), &refusal, what, program)?;
     tell(rt, &told);
     Err(Trouble::Refused)
+}
+
+/// The same, where what is told was made for it, if there was memory to make it.
+pub(crate) fn accepted_as<R: Print + Eprint + AllocGlobal>(
+    rt: &R,
+    reply: &Value,
+    what: Result<String, AllocError>,
+) -> Result<(), Trouble> {
+    let what = what?;
+    accepted(rt, reply, &what, None)
 }
 
 /// What was refused, and why; and where a place of a text is meant, its line, and a caret below the place. What a service without a seat refuses, or one of an account without a

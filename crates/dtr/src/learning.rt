@@ -1,6 +1,6 @@
 //! What is known of a session that traces, and how it is learnt: what the records of its enablings are made of.
 
-use crate::enabling::accepted;
+use crate::enabling::{accepted, accepted_as};
 use crate::fault::Trouble;
 use crate::reading::Readings;
 use crate::requests;
@@ -244,25 +244,15 @@ fn describe<R: Print + Eprint + AllocGlobal>(
     known: &mut Learnt,
     epid: u32,
 ) -> Result<(), Trouble> {
-    let reply = ask_describe(rt.alloc(), session, epid)?;
-    accept_described(rt, &reply, epid)?;
-    keep_described(rt.alloc(), known, epid, &reply)
-}
-
-/// Asks for the layout and the probe of an enabling, and gives the reply.
-fn ask_describe(alloc: Global, session: &mut Session<'_>, epid: u32) -> Result<Value, Trouble> {
-    let line = requests::with_number(alloc, "describe", "epid", u64::from(epid))?;
-    session.ask(alloc, &line)
-}
-
-/// Says why a reply refuses an enabling, where it does.
-fn accept_described<R: Print + Eprint + AllocGlobal>(
-    rt: &R,
-    reply: &Value,
-    epid: u32,
-) -> Result<(), Trouble> {
-    let what = format!(in rt.alloc(); "enabling {epid} isn't described")?;
-    accepted(rt, reply, &what, None)
+    let alloc = rt.alloc();
+    let line = requests::with_number(alloc, "describe", "epid", u64::from(epid));
+    let reply = session.ask_made(alloc, line)?;
+    accepted_as(
+        rt,
+        &reply,
+        format!(in alloc; "enabling {epid} isn't described"),
+    )?;
+    keep_described(alloc, known, epid, &reply)
 }
 
 /// Keeps what a reply tells of an enabling.

@@ -19,23 +19,19 @@ pub(crate) fn list_probes<R: Files + Print + Eprint + AllocGlobal>(
     shape: RowShape,
     output: Option<&str>,
 ) -> Result<(), Trouble> {
-    let reply = ask_list(rt.alloc(), session, description)?;
+    let alloc = rt.alloc();
+    let line = requests::with_text(alloc, "list", "probe", description);
+    let reply = session.ask_made(alloc, line)?;
     accepted(
         rt,
         &reply,
         "the description is refused",
         Some((description, shape.widths.messages)),
     )?;
-    let mut out = Vec::new(rt.alloc());
-    push_listed(rt.alloc(), &mut out, shape, &reply)?;
+    let mut out = Vec::new(alloc);
+    push_listed(alloc, &mut out, shape, &reply)?;
     let mut file = create_output(rt, output)?;
     write_out(rt, &mut file, &mut out)
-}
-
-/// Asks for the probes that a description asks for, and gives the reply.
-fn ask_list(alloc: Global, session: &mut Session<'_>, description: &str) -> Result<Value, Trouble> {
-    let line = requests::with_text(alloc, "list", "probe", description)?;
-    session.ask(alloc, &line)
 }
 
 /// Adds the table of the probes that a reply lists.

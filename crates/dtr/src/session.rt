@@ -50,6 +50,16 @@ impl<'a> Session<'a> {
         self.exchange_again(alloc, &whole)
     }
 
+    /// Asks a line that was made for it, if there was memory to make it.
+    pub(crate) fn ask_made(
+        &mut self,
+        alloc: Global,
+        line: Result<String, Trouble>,
+    ) -> Result<Value, Trouble> {
+        let line = line?;
+        self.ask(alloc, &line)
+    }
+
     /// Sends a line once more that was refused for memory, and reads the reply.
     fn exchange_again(&mut self, alloc: Global, whole: &[u8]) -> Result<Value, Trouble> {
         match self.exchange(alloc, whole) {

@@ -1,6 +1,6 @@
 //! What was recorded on a processor: its records as rows, or as lines of JSON.
 
-use crate::enabling::accepted;
+use crate::enabling::accepted_as;
 use crate::fault::Trouble;
 use crate::json_lines::push_record_line;
 use crate::learning::{Learnt, learn};
@@ -37,27 +37,12 @@ pub(crate) fn snap<R: Print + Eprint + AllocGlobal>(
     if session.is_short() {
         return tell_unread(rt, cpu);
     }
-    let reply = ask_snap(alloc, session, cpu)?;
-    accept_snap(rt, &reply, cpu)?;
+    let reply = session.ask_made(alloc, requests::with_number(alloc, "snap", "cpu", cpu))?;
+    let told = format!(in alloc; "the buffer of CPU {cpu} can't be read");
+    accepted_as(rt, &reply, told)?;
     let bytes = bytes_in(alloc, &reply)?;
     push_fresh(rt, session, known, cpu, shape, &bytes, out)?;
     tell_losses(rt, known, cpu, &reply)
-}
-
-/// Asks for the buffer of a processor, and gives the reply.
-fn ask_snap(alloc: Global, session: &mut Session<'_>, cpu: u64) -> Result<Value, Trouble> {
-    let line = requests::with_number(alloc, "snap", "cpu", cpu)?;
-    session.ask(alloc, &line)
-}
-
-/// Says why a reply refuses the buffer of a processor, where it does.
-fn accept_snap<R: Print + Eprint + AllocGlobal>(
-    rt: &R,
-    reply: &Value,
-    cpu: u64,
-) -> Result<(), Trouble> {
-    let what = format!(in rt.alloc(); "the buffer of CPU {cpu} can't be read")?;
-    accepted(rt, reply, &what, None)
 }
 
 /// The bytes of the buffer that a reply gives.

@@ -1,6 +1,6 @@
 //! The aggregations of the programs, as tables and pictures.
 
-use crate::enabling::accepted;
+use crate::enabling::accepted_as;
 use crate::fault::Trouble;
 use crate::json_lines::push_table_line;
 use crate::output::write_out;
@@ -97,29 +97,12 @@ fn push_table<R: Print + Eprint + AllocGlobal>(
     shape: RowShape,
     out: &mut Vec<u8>,
 ) -> Result<(), Trouble> {
-    let reply = ask_table(rt, session, &aggregation.name)?;
-    accept_table(rt, &reply, &aggregation.name)?;
-    push_answered(rt.alloc(), aggregation, shape, &reply, out)
-}
-
-/// Asks for an aggregation, and gives the reply.
-fn ask_table<R: AllocGlobal>(
-    rt: &R,
-    session: &mut Session<'_>,
-    name: &str,
-) -> Result<Value, Trouble> {
-    let line = requests::with_text(rt.alloc(), "agg", "name", name)?;
-    session.ask(rt.alloc(), &line)
-}
-
-/// Says why a reply refuses an aggregation, where it does.
-fn accept_table<R: Print + Eprint + AllocGlobal>(
-    rt: &R,
-    reply: &Value,
-    name: &str,
-) -> Result<(), Trouble> {
-    let what = format!(in rt.alloc(); "the aggregation @{name} can't be read")?;
-    accepted(rt, reply, &what, None)
+    let alloc = rt.alloc();
+    let name = &aggregation.name;
+    let reply = session.ask_made(alloc, requests::with_text(alloc, "agg", "name", name))?;
+    let told = format!(in alloc; "the aggregation @{name} can't be read");
+    accepted_as(rt, &reply, told)?;
+    push_answered(alloc, aggregation, shape, &reply, out)
 }
 
 /// Adds the table of an aggregation that a reply gives.
