@@ -410,14 +410,14 @@ fn consumers_answer_what_the_rows_say(rt: HostRuntime) -> Result<(), Fail> {
         if let Some(name) = row.strip_prefix("account ") {
             asking = consumer(alloc, &machine, name)?;
         } else {
-            is_so(&rt, alloc, &machine, &mut asking, row)?;
+            check_row(&rt, alloc, &machine, &mut asking, row)?;
         }
     }
     Ok(())
 }
 
-/// A row's step is answered what the row says. A row without ` = ` is passed over.
-fn is_so(
+/// Checks that a row's step is answered what the row says. A row without ` = ` is passed over.
+fn check_row(
     rt: &impl Abort,
     alloc: Global,
     machine: &Machine,

@@ -233,7 +233,7 @@ fn a_long_input_is_fed_byte_by_byte(rt: HostRuntime) -> Result<(), Fail> {
     let mut lines = Lines::new(alloc)?;
     let mut whole = 0usize;
     for byte in &input {
-        if is_whole_after(&rt, alloc, &mut lines, *byte, &wanted)? {
+        if is_whole_after(&rt, alloc, &mut lines, *byte, &wanted, whole)? {
             whole = whole.saturating_add(1);
         }
     }
@@ -241,19 +241,20 @@ fn a_long_input_is_fed_byte_by_byte(rt: HostRuntime) -> Result<(), Fail> {
     Ok(())
 }
 
-/// Feeds a byte, and tells whether a line is whole then, which is this one.
+/// Feeds a byte after so many lines, and tells whether a line is whole then, which is this one.
 fn is_whole_after(
     rt: &impl Abort,
     alloc: Global,
     lines: &mut Lines,
     byte: u8,
     wanted: &Asked,
+    before: usize,
 ) -> Result<bool, Fail> {
     let (used, line) = fed(alloc, lines, &[byte])?;
-    assert!(rt; used == 1, "a byte isn't used");
+    assert!(rt; used == 1, "after {before} lines a byte isn't used");
     let Some(line) = line else {
         return Ok(false);
     };
-    assert!(rt; line == *wanted, "another line");
+    assert!(rt; line == *wanted, "after {before} lines another");
     Ok(true)
 }

@@ -371,14 +371,14 @@ fn worked_rows(rt: HostRuntime) -> Result<(), Fail> {
         } else if row == "forget" {
             shapes = Shapes::new(alloc);
         } else {
-            is_so(&rt, alloc, &machine, &shapes, row)?;
+            check_row(&rt, alloc, &machine, &shapes, row)?;
         }
     }
     Ok(())
 }
 
-/// What a row asks is answered what it says. A row without ` =` is passed over.
-fn is_so(
+/// Checks that what a row asks is answered what it says. A row without ` =` is passed over.
+fn check_row(
     rt: &impl Abort,
     alloc: Global,
     machine: &Machine,

@@ -65,13 +65,13 @@ const FAULTS: &[(&[u8], GlobFault)] = &[
 #[test]
 fn matches_whole_texts(rt: HostRuntime) -> Result<(), Fail> {
     for line in TABLE.lines() {
-        is_so(&rt, line)?;
+        check_line(&rt, line)?;
     }
     Ok(())
 }
 
-/// A line's pattern matches what the line says, and nothing that stands there behind `not`.
-fn is_so(rt: &impl Abort, line: &str) -> Result<(), Fail> {
+/// Checks that a line's pattern matches what the line says, and nothing that stands there after `not`.
+fn check_line(rt: &impl Abort, line: &str) -> Result<(), Fail> {
     let mut words = line.split_whitespace();
     let pattern = words.next().unwrap_or("()");
     let mut matched = true;
