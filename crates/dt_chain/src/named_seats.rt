@@ -27,7 +27,7 @@ impl NamedSeats<'_> {
     ghost use Rattle.dt_chain.specs.Named.{life_left};
     ghost use Rattle.dt_machine.specs.BitWord.{has_bit};
 
-    /// Takes out the seat of the least number that is still to come, with its life.
+    /// Takes out the seat of the least number that is still to come, with its life. `None`: no seat is left.
     pub fn pop_first(&mut self) -> Option<(Seat, u64)>
         ensures { MatchOption result (((seat : ℕ) → life_left self.old seat ≡ None) × ((seat : ℕ) → life_left self.new seat ≡ None))
             (λ first. (life_left self.old first.0 ≡ Some first.1)
@@ -41,7 +41,7 @@ impl NamedSeats<'_> {
         Some((seat, self.mask.lives[seat.number() as usize]))
     }
 
-    /// Goes on to the first word of which a seat is left, or to the last. The seats that are still to come stay the same.
+    /// Goes on to the first word of which a seat is left. Where none is left it goes on to the last, or stays. The seats that are still to come stay the same.
     fn turn(&mut self)
         ensures same { (seat : ℕ) → life_left self.new seat ≡ life_left self.old seat }
         ensures none { ((place : ℕ) → has_bit self.new.left place ≡ false) → (seat : ℕ) → life_left self.new seat ≡ None }

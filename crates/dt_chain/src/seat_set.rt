@@ -44,7 +44,7 @@ impl SeatSet {
 
     /// Whether all that are in it lie in the first word.
     pub(crate) fn is_of_first_word(&self) -> bool
-        ensures { IsTrue result → (seat : ℕ) → 0 < seat / WORD_BITS → has self.now seat ≡ false }
+        ensures { IsTrue result ↔ ((seat : ℕ) → 0 < seat / WORD_BITS → has self.now seat ≡ false) }
     {
         for word in 1..SEAT_WORDS {
             if !self.words[word].is_empty() {

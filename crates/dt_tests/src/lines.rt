@@ -255,6 +255,6 @@ fn is_whole_after(
     let Some(line) = line else {
         return Ok(false);
     };
-    assert!(rt; line == *wanted, "after {before} lines another");
+    assert!(rt; line == *wanted, "after {before} lines another line");
     Ok(true)
 }

@@ -4,7 +4,7 @@ use dt_glob::{GlobFault, PATTERN_MAX, Pattern};
 use std::process::Abort;
 use std::test::Fail;
 
-/// In each line a pattern, texts that it matches, and behind `not` texts that it doesn't; `()` is the empty text.
+/// In each line a pattern, texts that it matches, and after `not` texts that it doesn't; `()` is the empty text.
 const TABLE: &str = "
 () () not a
 * () a *
