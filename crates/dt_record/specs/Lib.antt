@@ -5,6 +5,7 @@ pub mod Limits
 pub mod Pasts
 pub mod TracingAt
 pub mod Taking
+pub mod Traced
 pub mod Performance
 pub mod Forms
 pub mod Layout

@@ -2,6 +2,7 @@
 pub mod Performing
 pub mod BareTakings
 pub mod BareRecords
+pub mod Traced
 pub mod BareValues
 pub mod Numbers
 pub mod Bounds

@@ -26,7 +26,7 @@ use dt_program::{Argument, Frames};
 pub(crate) type Bytes = ArrayVec<u8, RECORD_MAX>;
 
 /// How many bytes a number takes in a record.
-const NUMBER_SIZE: usize = 8;
+pub(crate) const NUMBER_SIZE: usize = 8;
 
 /// How many numbers most records hold at most.
 const FEW_NUMBERS: usize = 4;

@@ -24,6 +24,7 @@ mod recorded;
 mod recording;
 mod splitting;
 mod taking;
+mod traced;
 mod values;
 
 pub use bare_record::record_only;
@@ -40,3 +41,4 @@ pub use recorded::{Record, Recorded};
 pub use recording::{leaves_record, only_gives, only_records};
 pub use splitting::split;
 pub use taking::taken;
+pub use traced::{TRACED_SIZE, traced_record, traced_variable};

@@ -8,7 +8,7 @@ use dt_machine::Firing;
 use dt_names::{ProbeTuple, ShortText};
 use dt_record::{
     Layout, RECORD_MAX, SpecEnd, Taken, VALUES_MAX, give_only, only_gives, only_records,
-    record_only, split, taken,
+    record_only, split, taken, traced_record, traced_variable,
 };
 use dt_speculation::Specs;
 use std::alloc::Global;
@@ -35,6 +35,10 @@ a{exit(3);exit(4)} => - exit 3
 a{trace(1);exit(2)} => 000000050000000000000001 exit 2
 a{@n[arg0,execname]=sum(5);@m=count()} => - = 7 = 5 = 0
 a{trace(arg0)} => 000000050000000000000007
+a{trace(epid)} => 000000050000000000000005
+a{trace(uid)} => 0000000500000000000001f5
+a/arg0/{trace(arg0)} => 000000050000000000000007
+a/arg1/{trace(arg0)} => passed
 a{self->n = 3; trace(self->n)} => 000000050000000000000003
 a{self->n = self->n + 1; self->n = self->n + 1; trace(self->n)} => 000000050000000000000002
 a{self->a = 1; self->b = 2; self->c = 3; trace(self->c)} => 000000050000000000000000
@@ -130,9 +134,10 @@ fn told_again(alloc: Global, text: &str, scene: &Scene, left: &mut Taken) -> Res
 struct BareRoom {
     record: ArrayVec<u8, RECORD_MAX>,
     values: ArrayVec<Value, VALUES_MAX>,
-    /// How many clauses did nothing but record so far, and how many nothing but give.
+    /// How many clauses did nothing but record so far, how many nothing but give, and how many traced a variable alone.
     recording: usize,
     giving: usize,
+    tracing: usize,
 }
 
 /// What it leaves by the way of such clauses, in place of what those before it left; nothing where it does more.
@@ -197,6 +202,30 @@ fn given(alloc: Global, values: &[Value]) -> Result<String, Fail> {
     Ok(words)
 }
 
+/// What a clause leaves that traces a variable and does nothing else, whatever was left before; nothing where it does more.
+fn told_traced(
+    alloc: Global,
+    text: &str,
+    scene: &Scene,
+    room: &mut BareRoom,
+) -> Result<Option<String>, Fail> {
+    let program = parsed(alloc, text)?;
+    let clause = program.clauses.first().ok_or("no clause")?;
+    let Some(variable) = traced_variable(clause) else {
+        return Ok(None);
+    };
+    room.tracing = room.tracing.saturating_add(1);
+    Ok(Some(digits_of(alloc, &traced_record(5, variable, scene))?))
+}
+
+/// Whether it was told nothing, or what was wanted.
+fn is_wanted(told: Option<String>, wanted: &str) -> bool {
+    match told {
+        Some(told) => told.as_str() == wanted,
+        None => true,
+    }
+}
+
 /// The first line of the table that does not hold by the way of such clauses.
 fn first_wrong_of_the_bare(
     alloc: Global,
@@ -205,10 +234,11 @@ fn first_wrong_of_the_bare(
 ) -> Result<Option<&'static str>, Fail> {
     for line in CLAUSES.lines() {
         if let Some((text, wanted)) = line.split_once(" => ") {
-            if let Some(told) = told_bare(alloc, text, scene, room)? {
-                if told.as_str() != wanted {
-                    return Ok(Some(line));
-                }
+            if !is_wanted(told_bare(alloc, text, scene, room)?, wanted) {
+                return Ok(Some(line));
+            }
+            if !is_wanted(told_traced(alloc, text, scene, room)?, wanted) {
+                return Ok(Some(line));
             }
         }
     }
@@ -264,13 +294,14 @@ fn leaves_what_the_table_says(rt: HostRuntime) -> Result<(), Fail> {
         values: ArrayVec::new(),
         recording: 0,
         giving: 0,
+        tracing: 0,
     };
     assert_eq!(rt;
         first_wrong_of_the_bare(rt.alloc(), &scene, &mut room)?,
         None
     );
     // so many lines of the table have such a way
-    assert_eq!(rt; (room.recording, room.giving), (12, 3));
+    assert_eq!(rt; (room.recording, room.giving, room.tracing), (16, 3, 4));
     Ok(())
 }
 
