@@ -1,9 +1,9 @@
 -- A taking of a clause that neither assigns, draws, ends a speculation, directs a record to one nor exits: one that does nothing but record, or
 -- nothing but give to aggregations.
-use Rattle.std.proofs.Common.{◌≡◌, ℕ, ◌+◌, ◌==◌, ◌≢◌, Bool, true, false, cond, List, [], ◌∷◌, ◌++◌, Option, Some, None, map, ⊎_elim}
+use Rattle.std.proofs.Common.{◌≡◌, ℕ, ◌+◌, ◌==◌, ◌≢◌, Bool, true, false, cond, List, [], ◌∷◌, ◌++◌, Option, None, map, ⊎_elim}
 use Rattle.std.proofs.Common.{refl, sym, ap, ap₂, ◌∙◌, subst, arith}
 use Rattle.std.specs.Option.{option_map, option_map_or, option_to_list}
-use Rattle.std.specs.Prelude.{is_some, option_and_then, if◌then◌else◌}
+use Rattle.std.specs.Prelude.{option_and_then}
 use Rattle.std.proofs.lemmas.Bool.{cases_eq, ne_eqb}
 use Rattle.std.proofs.lemmas.List.{append-nil}
 use Rattle.dt_buffer.specs.History.{attempt}
@@ -27,11 +27,11 @@ use Rattle.dt_speculation.specs.declared.speculations.Specs.{Specs}
 use Rattle.dt_life.specs.Aggregations.{contributions_of, split_by, uses_by}
 use Rattle.dt_life.specs.Buffers.{comes_by_steps, errors_after}
 use Rattle.dt_life.specs.Life.{SetUp, shapes_in}
-use Rattle.dt_life.specs.Takings.{Taking, assignments_of, draws_of, ends_of, exit_of, freed_by, parts_out, puts_of, spec_events_of, taking_of}
+use Rattle.dt_life.specs.Takings.{Taking, assignments_of, draws_of, ends_of, exit_of, freed_by, puts_of, spec_events_of, taking_of}
 use Rattle.dt_life.specs.TracingSteps.{TracingStep, takes, dynamic_drops, locals_of, past_of_steps, specs_of}
 use Rattle.dt_life.specs.laws.Pasts.{dynamic_elsewhere}
 use Rattle.dt_consumer.specs.Keeps.{tally_after}
-use Rattle.dt_consumer.specs.Tallies.{AreTallied, Tally, changed_at, record_in, with_outcome, with_records}
+use Rattle.dt_consumer.specs.Tallies.{AreTallied, Tally, changed_at, with_outcome, with_records}
 use Rattle.dt_consumer.specs.declared.processor.Processor.{Processor}
 use Rattle.dt_consumer.proofs.Leaving.{abandoned_tally, changed_is, known_drops, known_tally, locals_more, no_more, passed_tally, specs_more, tally_of, told_is}
 use Rattle.dt_consumer.proofs.Parting.{events_none}

@@ -13,12 +13,12 @@ use crate::uses::Uses;
 use dt_aggstore::{AggStore, Aggregation};
 use dt_cred::Account;
 use dt_ecb::Ecb;
-use dt_expr::{EvalFault, Scene};
+use dt_expr::{EvalFault, NumberVariable, Scene};
 use dt_lang::Clause;
 use dt_life::{Context, END, Options, empty_stores, own_firing, own_process, scene_at};
 use dt_locals::Locals;
 use dt_machine::Machine;
-use dt_record::{Taken, give_only, record_only};
+use dt_record::{Taken, give_only, record_only, traced_record};
 use dt_speculation::{SpecPut, Specs, drops_told};
 use std::alloc::{AllocError, Global};
 
@@ -37,7 +37,7 @@ pub(crate) struct Processors {
 }
 
 impl Processors {
-    ghost use Rattle.std.specs.Prelude.{◌≡◌, ◌+◌, ◌-◌, ◌<◌, ◌==◌, ℕ, Bool, true, false, List, [], ◌∷◌, ◌++◌, All, IfOk, IfSome, IsSomeAnd, length, map, slice_get, vec_len, if◌then◌else◌};
+    ghost use Rattle.std.specs.Prelude.{◌≡◌, ◌+◌, ◌-◌, ◌<◌, ◌==◌, ℕ, Bool, IsTrue, true, false, Some, None, List, [], ◌∷◌, ◌++◌, All, IfOk, IfSome, IsSomeAnd, length, map, slice_get, vec_len, if◌then◌else◌};
     ghost use Rattle.dt_aggstore.specs.Chosen.{drops};
     ghost use Rattle.dt_aggstore.specs.History as stores;
     ghost use Rattle.dt_aggstore.specs.declared.limits.TheConstants.{ADDED_LIMIT};
@@ -69,6 +69,7 @@ impl Processors {
     ghost use Rattle.dt_record.specs.Forms.{form_of_taken};
     ghost use Rattle.dt_record.specs.Pasts.{TracingPast};
     ghost use Rattle.dt_record.specs.Taking.{only_gives, only_records, taking};
+    ghost use Rattle.dt_record.specs.Traced.{traced_variable};
     ghost use Rattle.dt_speculation.specs.History.{SpecPast, specs_then};
     ghost use Rattle.dt_speculation.specs.IsAt.{SpecsAt, fails_of};
 
@@ -122,8 +123,52 @@ impl Processors {
 
     /// Takes the ECBs of the probe that fires, on the processor of the firing, up to the first that exits, and answers
     /// its status. It takes no memory.
+    ///
+    /// Where there is one ECB, whose clause traces a variable and does nothing else, it is taken here, and needs nothing of what others do.
     #[inline(always)]
     pub(crate) fn take(
+        &mut self,
+        scratch: &mut Scratch,
+        programs: &Programs,
+        uses: &[Uses],
+        list: &EcbList,
+        context: &Context,
+    ) -> Option<i64>
+        requires same { length uses.now ≡ vec_len programs.now.clauses }
+        requires there { context.now.firing.now.cpu < vec_len self.old.all }
+        requires placed { All (λ ecb. ecb.clause < vec_len programs.now.clauses) list.now.ecbs.items }
+        requires counts { All (AtMost (DROPS_LIMIT - COMES_MAX)) self.old.all.items }
+        requires fails { FailsAtMost (DROPS_LIMIT - COMES_MAX) self.old }
+        requires gives { All (GivenAtMost (ADDED_LIMIT - GIVES_MAX)) self.old.stores.items }
+        ensures len { vec_len self.new.all ≡ vec_len self.old.all }
+        ensures counts { (n : ℕ) → All (AtMost n) self.old.all.items → All (AtMost (n + COMES_MAX)) self.new.all.items }
+        ensures fails { (n : ℕ) → FailsAtMost n self.old → FailsAtMost (n + COMES_MAX) self.new }
+        ensures gives { (n : ℕ) → All (GivenAtMost n) self.old.stores.items → All (GivenAtMost (n + GIVES_MAX)) self.new.stores.items }
+        // for each set-up with these clauses, and steps that hold nothing of END: who is after them is then after these ECBs' takings too
+        ensures after { (account : Account) (registry : Registry) (s : SetUp) (steps : List TracingStep)
+            → map form_of_clause programs.now.clauses.items ≡ s.clauses → AreUses (shapes_in s) s.clauses uses.now
+            → AreAfter account registry s steps self.old → ((cpu : ℕ) → of_end (comes_by_steps cpu steps) ≡ [])
+            → AreAfter account registry s (steps_and steps
+            (takings_by false s.options steps (form_of_context context.now) s.clauses list.now.ecbs.items)) self.new }
+        ensures exit { (account : Account) (registry : Registry) (s : SetUp) (steps : List TracingStep)
+            → map form_of_clause programs.now.clauses.items ≡ s.clauses → AreUses (shapes_in s) s.clauses uses.now
+            → AreAfter account registry s steps self.old → ((cpu : ℕ) → of_end (comes_by_steps cpu steps) ≡ [])
+            → result ≡ first_exit (takings_by false s.options steps (form_of_context context.now) s.clauses list.now.ecbs.items) }
+    {
+        if list.ecbs.len() == 1 && self.take_traced(programs, list.ecbs[0], context) {
+            return None;
+        }
+        let enabled = Enabled {
+            clauses: programs.clauses(),
+            outlines: programs.outlines(),
+            uses,
+        };
+        self.take_each(scratch, &enabled, list, context)
+    }
+
+    /// The same, one ECB after another, whatever their clauses do.
+    #[inline(always)]
+    pub(crate) fn take_each(
         &mut self,
         scratch: &mut Scratch,
         enabled: &Enabled<'_>,
@@ -274,6 +319,68 @@ impl Processors {
             self.give_one(scratch, clause, &enabled.uses[ecb.clause], &scene, cpu);
         }
         None
+    }
+
+    /// Takes an ECB whose clause traces a variable and does nothing else, and answers whether it is such a one: of another nothing is taken.
+    #[inline(always)]
+    fn take_traced(&mut self, programs: &Programs, ecb: Ecb, context: &Context) -> bool
+        requires there { context.now.firing.now.cpu < vec_len self.old.all }
+        requires placed { ecb.clause < vec_len programs.now.clauses }
+        requires counts { All (AtMost (DROPS_LIMIT - COMES_BY_ONE)) self.old.all.items }
+        ensures other { result ≡ false → self.new ≡ self.old }
+        ensures len { vec_len self.new.all ≡ vec_len self.old.all }
+        ensures counts { (n : ℕ) → All (AtMost n) self.old.all.items → All (AtMost (n + COMES_BY_ONE)) self.new.all.items }
+        ensures locals { self.new.locals ≡ self.old.locals }
+        ensures specs { self.new.specs ≡ self.old.specs }
+        ensures stores { self.new.stores ≡ self.old.stores }
+        ensures after { IsTrue result → (account : Account) (registry : Registry) (s : SetUp) (steps : List TracingStep)
+            → map form_of_clause programs.now.clauses.items ≡ s.clauses → AreAfter account registry s steps self.old
+            → ((cpu : ℕ) → of_end (comes_by_steps cpu steps) ≡ []) → AreAfter account registry s
+            (steps ++ takes (taking_by false s.options steps (form_of_context context.now) s.clauses ecb) ∷ []) self.new }
+        ensures exit { IsTrue result → (account : Account) (registry : Registry) (s : SetUp) (steps : List TracingStep)
+            → map form_of_clause programs.now.clauses.items ≡ s.clauses → AreAfter account registry s steps self.old
+            → exit_of (taking_by false s.options steps (form_of_context context.now) s.clauses ecb) ≡ None }
+    {
+        let Some(variable) = programs.outlines()[ecb.clause].traced else {
+            return false;
+        };
+        let clause = &programs.clauses()[ecb.clause];
+        let scene = scene_at(context, ecb.epid);
+        self.trace_one(
+            ecb.epid,
+            variable,
+            clause,
+            &scene,
+            context.firing.cpu as usize,
+        );
+        true
+    }
+
+    /// Takes a clause that traces a variable and does nothing else: its record goes into the processor's buffer. The clause is there for the contract.
+    #[inline(always)]
+    fn trace_one(
+        &mut self,
+        epid: u32,
+        variable: NumberVariable,
+        _clause: &Clause,
+        scene: &Scene,
+        cpu: usize,
+    )
+        requires there { cpu < vec_len self.old.all }
+        requires traced { traced_variable (form_of_clause _clause.now) ≡ Some variable }
+        requires counts { All (AtMost (DROPS_LIMIT - 1)) self.old.all.items }
+        ensures len { vec_len self.new.all ≡ vec_len self.old.all }
+        ensures stores { self.new.stores ≡ self.old.stores }
+        ensures locals { self.new.locals ≡ self.old.locals }
+        ensures specs { self.new.specs ≡ self.old.specs }
+        ensures counts { (n : ℕ) → All (AtMost n) self.old.all.items → All (AtMost (n + 1)) self.new.all.items }
+        ensures recorded { (past : TracingPast) (tallies : ℕ → Tally)
+            → EndLast (tallies cpu).came false → AreTallied tallies self.old.all.items → AreTallied
+            (changed_at tallies cpu (with_outcome false (taking epid (scene_of scene.now) past (form_of_clause _clause.now)).outcome
+            (tallies cpu))) self.new.all.items }
+    {
+        let record = traced_record(epid, variable, scene);
+        let _put = self.all[cpu].buffer.put(&record, false);
     }
 
     /// Takes one ECB, whatever its clause does: what it assigns and draws is done, its record goes into the

@@ -131,7 +131,7 @@ impl Tracing {
             uses: &uses,
         };
         let mut scratch = Scratch::new();
-        let exit = processors.take(&mut scratch, &enabled, &lists[BEGIN as usize], &context);
+        let exit = processors.take_each(&mut scratch, &enabled, &lists[BEGIN as usize], &context);
         let tracing = Tracing {
             lists,
             uses,
@@ -202,13 +202,10 @@ impl Tracing {
             → IsTracing account.now machine.now.registry
             (happens account.now machine.now.registry s (sees firing)) self.new }
     {
-        let enabled = Enabled {
-            clauses: programs.clauses(),
-            outlines: programs.outlines(),
-            uses: &self.uses,
-        };
         let list = &self.lists[context.firing.probe as usize];
-        let exit = self.processors.take(scratch, &enabled, list, context);
+        let exit = self
+            .processors
+            .take(scratch, programs, &self.uses, list, context);
         self.seen += 1;
         if let Some(end) = End::after(exit, self.seen, self.history) {
             self.course = Course::Over(Some(end));

@@ -1,5 +1,5 @@
 -- What came of a clause that does nothing but give to aggregations.
-use Rattle.std.proofs.Common.{◌≡◌, ◌+◌, ◌∷◌, [], cond, refl, sym, ap, subst, ◌∙◌, arith}
+use Rattle.std.proofs.Common.{◌≡◌, ◌+◌, [], cond, refl, sym, ap, subst, ◌∙◌, arith}
 use Rattle.std.specs.List.{slice_set}
 use Rattle.dt_expr.specs.Scene.{scene_of}
 use Rattle.dt_lang.specs.Program.{form_of_clause}

@@ -19,7 +19,6 @@ use Rattle.dt_program.specs.declared.clause.TheConstants.{STATEMENTS_MAX}
 use Rattle.dt_record.specs.Forms.{form_of_end, form_of_taken}
 use Rattle.dt_record.specs.Taking.{ClauseTaken, TakenForm, abandoned, leaves, left_in, passed_over, past_with, taking}
 use Rattle.dt_record.specs.TracingAt.{TracingAt}
-use Rattle.dt_record.specs.declared.parts.Taken.{Taken}
 use Rattle.dt_speculation.specs.History.{specs_then}
 use Rattle.dt_speculation.specs.IsAt.{SpecsAt}
 use Rattle.dt_life.specs.Aggregations.{split_by, uses_by}

@@ -48,12 +48,12 @@ invariant_of-tracing c = record {
       c.ecbs.ensures.placed) c.in_ok-lists.ensures.lists;
   few = c.args.options.few;
   in_history = c.args.options.some;
-  counted = at_most_more _ (COMES_MAX * (0 + 1)) c.take-exit.new.self.all.items (omega arith)
-      (c.take-exit.ensures.counts 0 c.in_ok-processors.ensures.counts);
-  failed = fails_more _ (COMES_MAX * (0 + 1)) c.take-exit.new.self (omega arith)
-      (c.take-exit.ensures.fails 0 c.in_ok-processors.ensures.fails);
-  given = none_more _ (GIVES_MAX * (0 + 1)) c.take-exit.new.self.stores.items (omega arith)
-      (c.take-exit.ensures.gives 0 c.in_ok-processors.ensures.gives);
+  counted = at_most_more _ (COMES_MAX * (0 + 1)) c.take_each-exit.new.self.all.items (omega arith)
+      (c.take_each-exit.ensures.counts 0 c.in_ok-processors.ensures.counts);
+  failed = fails_more _ (COMES_MAX * (0 + 1)) c.take_each-exit.new.self (omega arith)
+      (c.take_each-exit.ensures.fails 0 c.in_ok-processors.ensures.fails);
+  given = none_more _ (GIVES_MAX * (0 + 1)) c.take_each-exit.new.self.stores.items (omega arith)
+      (c.take_each-exit.ensures.gives 0 c.in_ok-processors.ensures.gives);
 }
 
 pub returns-clause-fired : goal.returns-clause-fired
@@ -83,17 +83,17 @@ returns-clause-fired c = λ s same own kept shaped room.
     (ap (map form_of_clause) c.clauses.ensures.value ∙ own) c.in_ok-uses.ensures) in
     let fresh_ones = since_moved account registry s [] [] c.in_ok-processors.processors
     (c.in_ok-processors.ensures.after account registry s same room) in
-    let fired = fired_at account registry fresh began m list c.take-exit.new.self c.take-exit.result tt at refl its
+    let fired = fired_at account registry fresh began m list c.take_each-exit.new.self c.take_each-exit.result tt at refl its
     (λ cpu. refl)
-    (c.take-exit.ensures.after account registry fresh []
+    (c.take_each-exit.ensures.after account registry fresh []
     (record { clauses = own_clauses; uses = subst (AreUses (shapes_in s) s.clauses) (sym c.deref.ensures.value) used }) fresh_ones (λ cpu. refl))
-    (c.take-exit.ensures.exit account registry fresh []
+    (c.take_each-exit.ensures.exit account registry fresh []
     (record { clauses = own_clauses; uses = subst (AreUses (shapes_in s) s.clauses) (sym c.deref.ensures.value) used }) fresh_ones (λ cpu. refl)) in (
       record {
         lists = lists;
         all_lists = omega (arith, c.in_ok-lists.ensures.len, ap length c.probes.ensures.value);
         processors = fired.after;
-        all_processors = omega (arith, c.take-exit.ensures.len, c.in_ok-processors.ensures.len, c.cpus.ensures.value);
+        all_processors = omega (arith, c.take_each-exit.ensures.len, c.in_ok-processors.ensures.len, c.cpus.ensures.value);
         uses = used;
         history = ap (λ (o : OptionsForm). o.histsize) same;
         seen = refl;
@@ -103,8 +103,8 @@ returns-clause-fired c = λ s same own kept shaped room.
       fired.exited,
     )
 
-pub take-exit-requires-clause-placed : goal.take-exit-requires-clause-placed
-take-exit-requires-clause-placed c =
+pub take_each-exit-requires-clause-placed : goal.take_each-exit-requires-clause-placed
+take_each-exit-requires-clause-placed c =
     let clauses = c.clauses-2.result.now in
     placed_at (length clauses) c.in_ok-lists.lists.items BEGIN c.index.result.now
     (omega (

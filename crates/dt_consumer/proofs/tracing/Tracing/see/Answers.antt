@@ -1,8 +1,7 @@
 -- A firing was seen, and perhaps it was the last.
-use Rattle.std.proofs.Common.{◌≡◌, ◌+◌, ◌*◌, ◌≤◌, ◌==◌, ℕ, map, refl, sym, ap, ◌∙◌, subst, arith}
+use Rattle.std.proofs.Common.{◌≡◌, ◌+◌, ◌*◌, ◌≤◌, ◌==◌, ℕ, refl, sym, ap, ◌∙◌, subst, arith}
 use Rattle.dt_machine.specs.Context.{form_of_context}
 use Rattle.dt_consumer.specs.Keeps.{phase_by}
-use Rattle.dt_lang.specs.Program.{form_of_clause}
 use Rattle.dt_life.specs.Life.{shapes_in, tracing_steps, with_event}
 use Rattle.dt_life.specs.Takings.{seen}
 use Rattle.dt_life.specs.declared.limits.TheConstants.{END}
@@ -32,9 +31,9 @@ returns-in-Some-clause-seen c = λ s firing t own at.
     c.index-list.ensures)
     (t.end_last c.requires.going)
     (c.take-exit.ensures.after account registry s steps
-    (record { clauses = ap (map form_of_clause) c.clauses.ensures.value ∙ own; uses = subst (AreUses (shapes_in s) s.clauses) (sym c.deref.ensures.value) t.uses }) t.processors (t.end_last c.requires.going))
+    own (subst (AreUses (shapes_in s) s.clauses) (sym c.deref.ensures.value) t.uses) t.processors (t.end_last c.requires.going))
     (c.take-exit.ensures.exit account registry s steps
-    (record { clauses = ap (map form_of_clause) c.clauses.ensures.value ∙ own; uses = subst (AreUses (shapes_in s) s.clauses) (sym c.deref.ensures.value) t.uses }) t.processors (t.end_last c.requires.going)) in
+    own (subst (AreUses (shapes_in s) s.clauses) (sym c.deref.ensures.value) t.uses) t.processors (t.end_last c.requires.going)) in
     let next = with_event s (seen firing) in
     let end_list = c.index-list-in-Some.result.now in
     let its = list_at account registry next c.args.self.now.lists.items END end_list t.lists (omega arith)
@@ -69,9 +68,9 @@ returns-in_default-clause-seen c = λ s firing t own at.
     c.index-list.ensures)
     (t.end_last c.requires.going)
     (c.take-exit.ensures.after account registry s steps
-    (record { clauses = ap (map form_of_clause) c.clauses.ensures.value ∙ own; uses = subst (AreUses (shapes_in s) s.clauses) (sym c.deref.ensures.value) t.uses }) t.processors (t.end_last c.requires.going))
+    own (subst (AreUses (shapes_in s) s.clauses) (sym c.deref.ensures.value) t.uses) t.processors (t.end_last c.requires.going))
     (c.take-exit.ensures.exit account registry s steps
-    (record { clauses = ap (map form_of_clause) c.clauses.ensures.value ∙ own; uses = subst (AreUses (shapes_in s) s.clauses) (sym c.deref.ensures.value) t.uses }) t.processors (t.end_last c.requires.going)) in
+    own (subst (AreUses (shapes_in s) s.clauses) (sym c.deref.ensures.value) t.uses) t.processors (t.end_last c.requires.going)) in
     let next = with_event s (seen firing) in
     let stays = end_is account registry s (seen firing) c.take-exit.result _ fired.exited
     (counted_is c.args.self.now.seen _ c.args.self.now.history _ t.seen t.history)

@@ -13,7 +13,7 @@ use Rattle.dt_machine.specs.Context.{form_of_context}
 use Rattle.dt_machine.specs.Registry.{Registry}
 use Rattle.dt_program.specs.declared.clause.TheConstants.{STATEMENTS_MAX}
 use Rattle.dt_consumer.proofs.Turning.{HasTurned}
-use Rattle.dt_consumer.proofs.processors.Processors.take.Given as goal
+use Rattle.dt_consumer.proofs.processors.Processors.take_each.Given as goal
 
 abbrev pub invariant-loop-ecb : goal.invariant-loop-ecb
 invariant-loop-ecb l = record {
