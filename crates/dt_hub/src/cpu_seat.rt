@@ -34,8 +34,8 @@ pub struct CpuSeat<J: HubSite> {
     pub(crate) held: Vec<Held>,
     /// Where what clauses leave is made.
     pub(crate) scratch: Scratch,
-    /// The greatest probe of the firings that were read ahead. Nobody asks for it.
-    pub(crate) ahead: u32,
+    /// The greatest of what was read ahead of the script. Nobody asks for it.
+    pub(crate) ahead: i64,
 }
 
 impl<J: HubSite> Model for CpuSeat<J> {
@@ -60,25 +60,25 @@ pub(crate) fn note_down<J: HubSite>(facts: &Facts, log: &mut Both, followers: &V
 /// So many firings of a script are read ahead at once.
 const AHEAD: u32 = 16;
 
-/// Reads the probes of the firings that a processor makes next, at each [`AHEAD`]th of its places: the greatest of them, and at other places what it was before. Nothing is
-/// made of it: but a script is read once, from one end to the other, and each firing lies on lines of its own, for which the processor would wait at each. Here many are asked for
-/// at once, and come in the time of one.
+/// Reads the probes and the first arguments of the firings that a processor makes next, at each [`AHEAD`]th of its places: the greatest of them, and at other places what it was
+/// before. Nothing is made of it: but a script is read once, from one end to the other, and each firing lies on lines of its own, for which the processor would wait at each. Here
+/// many are asked for at once, and come in the time of one. What is asked of each firing, up to its first argument, lies on one line or on two.
 #[inline(always)]
-pub(crate) fn read_ahead(machine: &Machine, cpu: u32, place: u32, before: u32) -> u32 {
+pub(crate) fn read_ahead(machine: &Machine, cpu: u32, place: u32, before: i64) -> i64 {
     if place % AHEAD == 0 {
-        greatest_probe(machine, cpu, place)
+        greatest_ahead(machine, cpu, place)
     } else {
         before
     }
 }
 
-/// The greatest probe of the next [`AHEAD`] firings of a script, from a place on.
+/// The greatest probe or first argument of the next [`AHEAD`] firings of a script, from a place on.
 #[inline(never)]
-fn greatest_probe(machine: &Machine, cpu: u32, place: u32) -> u32 {
+fn greatest_ahead(machine: &Machine, cpu: u32, place: u32) -> i64 {
     let mut greatest = 0;
     for next in 0..AHEAD {
         if let Some(firing) = machine.firing(cpu, place.saturating_add(next)) {
-            greatest = firing.probe.max(greatest);
+            greatest = firing.args[0].max(i64::from(firing.probe)).max(greatest);
         }
     }
     greatest
