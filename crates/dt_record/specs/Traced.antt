@@ -21,6 +21,6 @@ abbrev pub variable_alone : List StatementForm → Option NumberVariable
 variable_alone (statement ∷ []) = variable_of statement
 variable_alone _ = None
 
--- the variable whose number a clause records at each of its probe's firings, where it does that and nothing else: it has no predicate
+-- the variable whose number a clause records at each of its probe's firings: it is one trace of that variable, without a predicate
 abbrev pub traced_variable : ClauseForm → Option NumberVariable
 traced_variable clause = option_map_or (λ f. None) clause.predicate (variable_alone clause.statements)

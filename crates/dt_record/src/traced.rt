@@ -24,8 +24,8 @@ fn variable_of(statement: &Statement) -> Option<NumberVariable>
     }
 }
 
-/// The variable whose number a clause records, where it does that and nothing else, whenever its probe fires: the clause is one `trace` of a variable that
-/// names a number, as `trace(arg0)`, and has no predicate. Such a clause can be taken by [`traced_record`].
+/// The variable whose number a clause records whenever its probe fires, where the clause is one `trace` of a variable that names a number, as `trace(arg0)`,
+/// without a predicate. Such a clause can be taken by [`traced_record`].
 pub fn traced_variable(clause: &Clause) -> Option<NumberVariable>
     ensures { result ≡ spec.traced_variable (form_of_clause clause.now) }
 {

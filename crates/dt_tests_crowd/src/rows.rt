@@ -14,7 +14,7 @@ use std::test::Fail;
 use std::thread::{self, Threads, map_vec};
 use std::time::{Clock, Duration};
 
-/// All firings of the rows, of which those of processor 1 and eleven of processor 0 are of the third probe.
+/// All firings of the rows, of which those of processor 1 and thirteen of processor 0 are of the probe whose identifier is 3.
 const MACHINE: &str = r#"{"cpus":2,
 "accounts":[{"name":"root","uid":0,"privs":["dtrace_kernel"]},{"name":"ann","uid":501,"privs":["dtrace_user"]}],
 "processes":[{"pid":100,"uid":501,"execname":"sh"},{"pid":200,"uid":0,"execname":"cron"}],
