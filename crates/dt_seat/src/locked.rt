@@ -43,7 +43,7 @@ use std::sync::{Mutex, Wait};
 /// Contracts see it as a `Seated` of `specs/Seats.antt`.
 #[derive(Drop)]
 pub struct LockedSeat<J: HubSite> {
-    // First, and its first fields first: so what nearly each offer writes lies beside the lock.
+    // First, and its first fields first: so what nearly each offer reads and writes of the session lies near the lock.
     pub(crate) present: Option<Present<J>>,
     pub(crate) number: Seat,
     pub(crate) life: u64,

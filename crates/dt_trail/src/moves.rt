@@ -62,32 +62,44 @@ pub fn look<K, L: Law<K>>(inner: &Inner<K, L>, seat: &mut RowSeat<K>, door: Door
 }
 
 // The owner's right goes into a note's seat. A claim stays where it was.
-fn lend<K, L: Law<K>>(inner: &Inner<K, L>, seat: &mut RowSeat<K>, right: &mut RowSeat<K>)
+fn lend<K, L: Law<K>>(
+    inner: &Inner<K, L>,
+    root: Link<()>,
+    seat: &mut RowSeat<K>,
+    right: &mut RowSeat<K>,
+)
+    requires root { root ≡ inner.now.about.root }
     requires seat { OfRow inner.now seat.old × Note seat.old }
     requires right { OfRow inner.now right.old × Owner right.old × (right.old.me.view.account ≡ seat.old.me.view.account) }
     ensures same { SameSeat seat.old seat.new }
     ensures seat { seat.new.me ≡ me (appender seat.old.me.view.account seat.old.me.view.note seat.old.me.view.knows right.old.me.view.knows right.old.me.view.door right.old.me.view.extent) None None }
 {
-    let root = inner.about.root;
-    let claim = tell(inner, right);
+    let claim = tell(inner, root, right);
     inner
         .rows
         .join_seat::<Lends>(seat, mem::replace(right, claim), ROOT, root);
 }
 
 // And comes out again.
-fn hand_back<K, L: Law<K>>(inner: &Inner<K, L>, seat: &mut RowSeat<K>, right: &mut RowSeat<K>)
-    requires { OfRow inner.now seat.old × Appender seat.old }
+fn hand_back<K, L: Law<K>>(
+    inner: &Inner<K, L>,
+    root: Link<()>,
+    seat: &mut RowSeat<K>,
+    right: &mut RowSeat<K>,
+)
+    requires root { root ≡ inner.now.about.root }
+    requires seat { OfRow inner.now seat.old × Appender seat.old }
     ensures seat { SameSeat seat.old seat.new × (seat.new.me ≡ me (note seat.old.me.view.account seat.old.me.view.note seat.old.me.view.knows seat.old.me.view.door) None None) }
     ensures right { (right.new.rows ≡ seat.old.rows) × (right.new.heap ≡ seat.old.heap) × (right.new.me ≡ me (owner seat.old.me.view.account seat.old.me.view.knows seat.old.me.view.door seat.old.me.view.extent) None None) }
 {
-    let root = inner.about.root;
     *right = inner.rows.split_seat::<Lends>(seat, ROOT, root);
 }
 
-/// Sets the first empty cell, in the note's seat. The owner's right goes in, and comes out again.
+/// Sets the first empty cell, in the note's seat. The owner's right goes in, and comes out again. Who appends knows where the root lies: so nothing of what the
+/// handles share is read here but cells.
 pub fn set_next<P: Picked, K, L: Law<K>>(
     inner: &Inner<K, L>,
+    root: Link<()>,
     seat: &mut RowSeat<K>,
     right: &mut RowSeat<K>,
     door: Door,
@@ -95,6 +107,7 @@ pub fn set_next<P: Picked, K, L: Law<K>>(
     item: &Item,
 )
     requires picked { P.item ≡ item.now }
+    requires root { root ≡ inner.now.about.root }
     requires seat { OfRow inner.now seat.old × Note seat.old }
     requires right { OfRow inner.now right.old × Owner right.old × (right.old.me.view.account ≡ seat.old.me.view.account) }
     requires door { (right.old.me.view.door ≡ door) × IsDoor door }
@@ -108,13 +121,13 @@ pub fn set_next<P: Picked, K, L: Law<K>>(
     ensures right { (right.new.rows ≡ seat.old.rows) × (right.new.heap ≡ seat.old.heap) × (right.new.me ≡ me (owner seat.old.me.view.account (right.old.me.view.knows ++ item.now ∷ []) door right.old.me.view.extent) None None) }
     ensures met { StartsWith right.old.me.view.knows seat.old.me.view.knows × (own seat.old.me.view.note right.old.me.view.knows ≡ own seat.old.me.view.note seat.old.me.view.knows) }
 {
-    lend(inner, seat, right);
+    lend(inner, root, seat, right);
     let empty = (count - door.from) as usize;
     let word = item.code();
     inner
         .rows
         .store::<Sets<P>>(seat, door.block + 1, door.link, empty, word);
-    hand_back(inner, seat, right);
+    hand_back(inner, root, seat, right);
 }
 
 /// The note's seat then knows the whole row.
@@ -125,11 +138,10 @@ pub fn show_all<K, L: Law<K>>(inner: &Inner<K, L>, seat: &mut RowSeat<K>, right:
     ensures right { (right.new.rows ≡ seat.old.rows) × (right.new.heap ≡ seat.old.heap) × (right.new.me ≡ me (owner seat.old.me.view.account right.old.me.view.knows right.old.me.view.door right.old.me.view.extent) None None) }
     ensures met { StartsWith right.old.me.view.knows seat.old.me.view.knows × (own seat.old.me.view.note right.old.me.view.knows ≡ own seat.old.me.view.note seat.old.me.view.knows) }
 {
-    lend(inner, seat, right);
-    inner
-        .rows
-        .load::<ComparesItems>(seat, ROOT, inner.about.root, 0);
-    hand_back(inner, seat, right);
+    let root = inner.about.root;
+    lend(inner, root, seat, right);
+    inner.rows.load::<ComparesItems>(seat, ROOT, root, 0);
+    hand_back(inner, root, seat, right);
 }
 
 // Reads a cell of the door's block, whatever it has.
@@ -241,18 +253,19 @@ pub fn lay_in<K, L: Law<K>>(
     ensures right { (right.new.rows ≡ seat.old.rows) × (right.new.heap ≡ seat.old.heap) × (right.new.me ≡ me (owner seat.old.me.view.account right.old.me.view.knows right.old.me.view.door (extent_of (blocks + 1) (right.old.me.view.extent.cells + cells) false null_ptr)) None None) }
     ensures met { StartsWith right.old.me.view.knows seat.old.me.view.knows × (own seat.old.me.view.note right.old.me.view.knows ≡ own seat.old.me.view.note seat.old.me.view.knows) }
 {
-    lend(inner, seat, right);
+    let root = inner.about.root;
+    lend(inner, root, seat, right);
     lay(inner, seat, blocks, cells, link, block);
-    hand_back(inner, seat, right);
+    hand_back(inner, root, seat, right);
 }
 
 /// What the seat knows, for another.
-pub fn tell<K, L: Law<K>>(inner: &Inner<K, L>, seat: &mut RowSeat<K>) -> RowSeat<K>
-    requires { OfRow inner.now seat.old }
+pub fn tell<K, L: Law<K>>(inner: &Inner<K, L>, root: Link<()>, seat: &mut RowSeat<K>) -> RowSeat<K>
+    requires root { root ≡ inner.now.about.root }
+    requires seat { OfRow inner.now seat.old }
     ensures seat { SameSeat seat.old seat.new × (seat.new.me ≡ seat.old.me) }
     ensures told { (result.rows ≡ seat.old.rows) × (result.heap ≡ seat.old.heap) × (result.me ≡ me (claim_of seat.old.me.view) None None) }
 {
-    let root = inner.about.root;
     inner.rows.split_seat::<TellsItems>(seat, ROOT, root)
 }
 

@@ -123,7 +123,7 @@ impl<K, L: Law<K>> TrailNote<K, L> {
         ensures same { self.new ≡ self.old }
     {
         let inner: &Inner<K, L> = &self.cells;
-        let mut seat = tell(inner, &mut self.seat);
+        let mut seat = tell(inner, inner.about.root, &mut self.seat);
         let word = word_again(inner, &mut seat, self.door, k);
         let Some(seen) = Seen::of(word) else {
             unreachable!()
@@ -137,7 +137,7 @@ impl<K, L: Law<K>> TrailNote<K, L> {
         ensures same { self.new ≡ self.old }
     {
         let inner: &Inner<K, L> = &self.cells;
-        let seat = tell(inner, &mut self.seat);
+        let seat = tell(inner, inner.about.root, &mut self.seat);
         Told {
             seat,
             door: self.door,

@@ -25,7 +25,7 @@ impl Trail {
     ghost use Rattle.dt_trail.specs.Known.{known_row, AreNew};
 
     /// A row of empty cells for an account, with its owner and its notes, which are numbered from 0: the session's, and then those of
-    /// the processors. The empty row has to be lawful for the account. It takes 16 bytes a cell, and some for each note and the owner.
+    /// the processors. The empty row has to be lawful for the account. It takes 16 bytes a cell, and some for each note.
     ///
     /// `Err`: there was no memory.
     pub fn new<K: Drop, L: Law<K>>(
@@ -45,13 +45,15 @@ impl Trail {
             made.push(note)?;
         }
         let right = end_maker(&inner, &mut maker);
+        let root = inner.about.root;
         let place = OwnerPlace {
             cells: inner,
+            root,
             door,
             widened: 0,
             width: cells,
         };
-        Ok((TrailOwner::of(Box::new(alloc, place)?, right), made))
+        Ok((TrailOwner::of(place, right), made))
     }
 }
 

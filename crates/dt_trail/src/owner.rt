@@ -14,6 +14,7 @@ use crate::moves::{arrive, lay_in, read_ahead, set_next, show_all, tell};
 use crate::note::TrailNote;
 use crate::storage;
 use crate::told::Told;
+use atomic_blocks::rows::Link;
 use std::alloc::{AllocError, Global};
 use std::marker::{Brand, Model};
 use std::sync::Arc;
@@ -23,24 +24,28 @@ use std::sync::Arc;
 /// Contracts see it as a `Known` of `specs/Known.antt`: which row it is and whose, the row's items, how many cells the row has,
 /// and how often it was widened.
 pub struct TrailOwner<K, L: Law<K>> {
-    // Nearly all appends write the count, and nothing else of the owner, so it comes first. The rest lies apart, on lines that are seldom written.
+    // An append into the block of the item before reads what lies here and cells, and nothing of what the handles share. The count is what each writes, and comes last:
+    // after it lies what else an offer to a session writes.
+    pub(crate) place: OwnerPlace<K, L>,
     pub(crate) count: u64,
-    pub(crate) place: Box<OwnerPlace<K, L>>,
     pub(crate) seat: RowSeat<K>,
 }
 
-/// Where an owner appends: the row's cells, the door to the block of the next one, how often the row was widened and how many cells it has.
+/// Where an owner appends: the row's cells and its root, the door to the block of the next cell, how often the row was widened and how many cells it has.
 pub(crate) struct OwnerPlace<K, L: Law<K>> {
     pub(crate) cells: Arc<Inner<K, L>, Global>,
+    pub(crate) root: Link<()>,
     pub(crate) door: Door,
     pub(crate) widened: u64,
     pub(crate) width: u64,
+    ghost rooted: { root ≡ (arc_value cells).about.root },
 }
 
 impl<K: Drop, L: Law<K>> Drop for OwnerPlace<K, L> {
     fn drop(self) {
         let Self {
             cells,
+            root: _,
             door: _,
             widened: _,
             width: _,
@@ -57,16 +62,16 @@ impl<K, L: Law<K>> Model for TrailOwner<K, L> {
     ghost use Rattle.std.specs.Arc.{arc_value};
     ghost use Rattle.dt_trail.specs.Insides.{owner_known, IsOwner};
 
-    ghost view = { λ o. owner_known (arc_value o.place.value.cells) o.seat o.place.value.width o.place.value.widened };
+    ghost view = { λ o. owner_known (arc_value o.place.cells) o.seat o.place.width o.place.widened };
 
-    ghost invariant = { λ o. IsOwner (arc_value o.place.value.cells) o.seat o.place.value.door o.count o.place.value.widened o.place.value.width };
+    ghost invariant = { λ o. IsOwner (arc_value o.place.cells) o.seat o.place.door o.count o.place.widened o.place.width };
 }
 
 impl<K: Drop, L: Law<K>> Drop for TrailOwner<K, L> {
     fn drop(self) {
         let Self {
-            count: _,
             place,
+            count: _,
             seat,
         } = self;
         drop(seat);
@@ -78,15 +83,15 @@ impl<K, L: Law<K>> TrailOwner<K, L> {
     ghost use Rattle.dt_trail.specs.Items.{whose};
     ghost use Rattle.dt_trail.specs.Known.{known_row, noted, Meets};
 
-    pub(crate) fn of(place: Box<OwnerPlace<K, L>>, right: RowSeat<K>) -> TrailOwner<K, L>
-        requires row { OfRow (arc_value place.value.cells) right }
-        requires view { right.me ≡ me (owner (Some (arc_value place.value.cells).about.account) [] place.value.door (first_extent place.value.width)) None None }
-        requires door { IsDoor place.value.door × (place.value.door.from ≡ 0) × (place.value.width < block_bound) × (place.value.widened ≡ 0) }
-        ensures { result ≡ known_row (row_of (arc_value place.value.cells)) [] place.value.width 0 }
+    pub(crate) fn of(place: OwnerPlace<K, L>, right: RowSeat<K>) -> TrailOwner<K, L>
+        requires row { OfRow (arc_value place.cells) right }
+        requires view { right.me ≡ me (owner (Some (arc_value place.cells).about.account) [] place.door (first_extent place.width)) None None }
+        requires door { IsDoor place.door × (place.door.from ≡ 0) × (place.width < block_bound) × (place.widened ≡ 0) }
+        ensures { result ≡ known_row (row_of (arc_value place.cells)) [] place.width 0 }
     {
         TrailOwner {
-            count: 0,
             place,
+            count: 0,
             seat: right,
         }
     }
@@ -127,12 +132,13 @@ impl<K, L: Law<K>> TrailOwner<K, L> {
         ensures met { Meets self.old.knows note.old }
     {
         let count = self.count;
-        let place: &mut OwnerPlace<K, L> = &mut self.place;
+        let place = &mut self.place;
         let inner: &Inner<K, L> = &place.cells;
         arrive(inner, &mut self.seat, &mut place.door, count);
         read_ahead(inner, &mut self.seat, &place.door, count);
         set_next::<Brand, K, L>(
             inner,
+            place.root,
             &mut note.seat,
             &mut self.seat,
             place.door,
@@ -151,7 +157,7 @@ impl<K, L: Law<K>> TrailOwner<K, L> {
         ensures note { note.new ≡ noted note.old.row note.old.number self.old.knows }
         ensures met { Meets self.old.knows note.old }
     {
-        let place: &OwnerPlace<K, L> = &self.place;
+        let place = &self.place;
         let inner: &Inner<K, L> = &place.cells;
         show_all(inner, &mut note.seat, &mut self.seat);
         note.door = place.door;
@@ -163,9 +169,9 @@ impl<K, L: Law<K>> TrailOwner<K, L> {
         ensures told { (result.row ≡ self.old.row.id) × (result.knows ≡ self.old.knows) }
         ensures same { self.new ≡ self.old }
     {
-        let place: &OwnerPlace<K, L> = &self.place;
+        let place = &self.place;
         let inner: &Inner<K, L> = &place.cells;
-        let seat = tell(inner, &mut self.seat);
+        let seat = tell(inner, place.root, &mut self.seat);
         Told {
             seat,
             door: place.door,
@@ -187,7 +193,7 @@ impl<K, L: Law<K>> TrailOwner<K, L> {
         ensures same { OnErr result ((self.new ≡ self.old) × (note.new ≡ note.old)) }
     {
         let (link, block) = storage::block(&self.place.cells.alloc, cells)?;
-        let place: &mut OwnerPlace<K, L> = &mut self.place;
+        let place = &mut self.place;
         let inner: &Inner<K, L> = &place.cells;
         let at = place.widened + 1;
         lay_in(

@@ -17,7 +17,7 @@ join_seat-requires g c =
       ap (λ s. s.heap) c.replace.ensures.value ∙ (told.0.1 ∙ r.right.0.1),
       ap (λ m. m.hand) right,
       ap (λ m. m.spare) right,
-      k.placed,
-      lends_as g.L.Law.lawful k.rows.key k.about k.keyed.0 _ _ _ _ (ap (λ m. m.view) r.seat.1) (ap (λ m. m.view) right)
-          (ap (λ m. m.view.account) same ∙ r.right.2),
+      rw (ap (λ q. q.ptr) r.root) k.placed,
+      rw (ap (λ q. q.ptr) r.root) (lends_as g.L.Law.lawful k.rows.key k.about k.keyed.0 _ _ _ _ (ap (λ m. m.view) r.seat.1) (ap (λ m. m.view) right)
+          (ap (λ m. m.view.account) same ∙ r.right.2)),
     )

@@ -1,7 +1,8 @@
+use Rattle.std.proofs.Common.{ap}
 use Rattle.dt_trail.proofs.Uses.{tells_as}
 use Rattle.dt_trail.proofs.moves.tell.Goals as goal
 
 pub split_seat-requires : goal.split_seat-requires
 split_seat-requires g c =
     let r = c.requires in let k = c.args.inner.now in
-    (r.0, r.1, k.placed, tells_as g.L.Law.lawful k.rows.key k.about k.keyed.0 _ _)
+    (r.seat.0, r.seat.1, rw (ap (λ q. q.ptr) r.root) k.placed, rw (ap (λ q. q.ptr) r.root) (tells_as g.L.Law.lawful k.rows.key k.about k.keyed.0 _ _))

@@ -12,7 +12,7 @@ use Rattle.dt_trail.proofs.owner.TrailOwner.meet.Goals as goal
 pub invariant_of-self : goal.invariant_of-self
 invariant_of-self g c =
     let i = c.self.invariant in
-    let inner = arc_value c.self.inside.place.value.cells in
+    let inner = arc_value c.self.inside.place.cells in
     let ks : List TrailItem = c.self.inside.seat.me.view.knows in
     let t = i.mine in
     let n = c.note.invariant in
@@ -20,7 +20,7 @@ invariant_of-self g c =
     let acc : c.note.inside.seat.me.view.account ≡ Some inner.about.account = ap (λ (m : Turn g.row.K.Denot). m.view.account) n.mine ∙ ap (λ (r : Named g.row.K.Denot). Some r.account) row in
     let x = c.show_all.ensures in
     let knows : c.self.inside.seat.me.view.knows ≡ ks = ap (λ (m : Turn g.row.K.Denot). m.view.knows) t in
-    owning inner c.show_all.new.right c.self.inside.place.value.door ks c.self.inside.count c.self.inside.place.value.widened c.self.inside.place.value.width
+    owning inner c.show_all.new.right c.self.inside.place.door ks c.self.inside.count c.self.inside.place.widened c.self.inside.place.width
     (x.right.0 ∙ (n.rows ∙ ap (λ (r : Named g.row.K.Denot). r.id) row)) refl
     (x.right.2 ∙ (λ j. me (owner (acc j) (knows j) ((ap (λ (m : Turn g.row.K.Denot). m.view.door) t) j) ((ap (λ (m : Turn g.row.K.Denot). m.view.extent) t) j)) None None))
     i.at i.counted i.full i.few i.wide
