@@ -5,6 +5,7 @@ pub mod Parting
 pub mod Counted
 pub mod Leaving
 pub mod Turning
+pub mod TracedEcbs
 pub mod Listing
 pub mod Giving
 pub mod Tracings

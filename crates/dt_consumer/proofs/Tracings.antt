@@ -25,6 +25,7 @@ use Rattle.dt_life.specs.declared.phase.End.{End}
 use Rattle.dt_consumer.specs.Keeps.{AreAfter, IsTracing, tally_after}
 use Rattle.dt_consumer.specs.Placing.{ArePlaced, IsPlaced}
 use Rattle.dt_consumer.specs.Tallies.{new_tally}
+use Rattle.dt_consumer.specs.TracedEcbs.{traced_among}
 use Rattle.dt_consumer.specs.declared.ecb_lists.EcbList.{EcbList}
 use Rattle.dt_consumer.specs.declared.processors.Processors.{Processors}
 use Rattle.dt_consumer.specs.declared.tracing.Tracing.{Tracing}
@@ -49,6 +50,13 @@ pub list_at : (account : Account) (registry : Registry) (s : SetUp) (lists : Lis
     → probe < length lists → list ≡ get_or lists probe list → ListOf account registry s probe list
 list_at account registry s lists probe list each inside at =
     found_at (ListOf account registry s probe) lists probe list inside at (each probe)
+
+-- what is kept of a probe's ECB that traces a variable alone
+pub traced_at : (clauses : List ClauseForm) (lists : List EcbList) (probe : ℕ) (list : EcbList)
+    → ((probe : ℕ) → IfSome (slice_get lists probe) (λ (l : EcbList). l.traced ≡ traced_among clauses l.ecbs.items))
+    → probe < length lists → list ≡ get_or lists probe list → list.traced ≡ traced_among clauses list.ecbs.items
+traced_at clauses lists probe list each inside at =
+    found_at (λ (l : EcbList). l.traced ≡ traced_among clauses l.ecbs.items) lists probe list inside at (each probe)
 
 -- what is taken of a list is what is taken of the probe's ECBs
 list_taken : (account : Account) (registry : Registry) (s : SetUp) (probe : ℕ) (list : EcbList)

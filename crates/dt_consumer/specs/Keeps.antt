@@ -17,6 +17,7 @@ use Rattle.dt_life.specs.Takings.{TracingEvent, snapped, truncated, closed}
 use Rattle.dt_life.specs.TracingSteps.{TracingStep, dynamic_drops, locals_of, specs_of}
 use Rattle.dt_life.specs.Uses.{AreGiven}
 use Rattle.dt_consumer.specs.Tallies.{Tally, AreTallied}
+use Rattle.dt_consumer.specs.TracedEcbs.{traced_among}
 use Rattle.dt_consumer.specs.Uses.{AreUses}
 use Rattle.dt_consumer.specs.declared.consumer.Consumer.{Consumer}
 use Rattle.dt_consumer.specs.declared.course.Course.{Course}
@@ -63,10 +64,13 @@ is_quiet (closed ∷ events) = is_quiet events
 is_quiet _ = false
 
 module _ (account : Account) (registry : Registry) (s : SetUp) where
-  -- What is there from `go` on: a list of ECBs for each probe, and each processor with what was taken there.
+  -- What is there from `go` on: a list of ECBs for each probe, with what a firing needs of one that traces a variable alone, and each processor with what
+  -- was taken there.
   pub record IsTracing (tracing : Tracing) : Type 0 where
     pub lists : (probe : ℕ) → IfSome (slice_get tracing.lists.items probe)
         (λ list. AreEcbs s.clauses (of_probe probe (ecbs_in account registry s)) list.ecbs.items)
+    pub traced : (probe : ℕ) → IfSome (slice_get tracing.lists.items probe)
+        (λ list. list.traced ≡ traced_among s.clauses list.ecbs.items)
     pub all_lists : length tracing.lists.items ≡ length registry.probes + 1
     pub processors : AreAfter account registry s (tracing_steps account registry s) tracing.processors
     pub all_processors : length tracing.processors.all.items ≡ registry.cpus

@@ -4,6 +4,7 @@
 pub mod Uses
 pub mod Tallies
 pub mod Placing
+pub mod TracedEcbs
 pub mod Keeps
 pub mod StandsFor
 pub mod Draft

@@ -3,17 +3,14 @@ use Rattle.std.specs.Prelude.{List, map}
 use Rattle.dt_lang.specs.Program.{form_of_clause}
 use Rattle.dt_program.specs.declared.clause.Clause.{Clause}
 use Rattle.dt_record.specs.Taking.{leaves_record, only_gives, only_records}
-use Rattle.dt_record.specs.Traced.{traced_variable}
 use Rattle.dt_consumer.specs.declared.outline.Outline.{Outline}
 
--- whether a clause leaves a record, whether it does nothing else, and whether it does nothing but give to aggregations; and the variable that it
--- traces, where it does that alone
+-- whether a clause leaves a record, whether it does nothing else, and whether it does nothing but give to aggregations
 abbrev pub outline_of : Clause → Outline
 outline_of clause = record {
   leaves_record = leaves_record (form_of_clause clause).statements;
   only_records = only_records (form_of_clause clause).statements;
   only_gives = only_gives (form_of_clause clause).statements;
-  traced = traced_variable (form_of_clause clause);
 }
 
 -- that of each clause

@@ -19,6 +19,7 @@ mod processors;
 mod programs;
 mod room;
 mod scratch;
+mod traced_ecb;
 mod tracing;
 mod uses;
 

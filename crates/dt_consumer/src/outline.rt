@@ -2,9 +2,8 @@
 ghost use Rattle.std.specs.Prelude.{◌≡◌};
 ghost use Rattle.dt_consumer.specs.Recording.{outline_of};
 
-use dt_expr::NumberVariable;
 use dt_lang::Clause;
-use dt_record::{leaves_record, only_gives, only_records, traced_variable};
+use dt_record::{leaves_record, only_gives, only_records};
 
 /// What is known of a clause before it is taken: it is asked once, as the clause is accepted, and not at each firing.
 #[derive(Clone, Copy)]
@@ -15,8 +14,6 @@ pub(crate) struct Outline {
     pub(crate) only_records: bool,
     /// Whether all that it does is to give to aggregations.
     pub(crate) only_gives: bool,
-    /// The variable that it traces, where it does that alone.
-    pub(crate) traced: Option<NumberVariable>,
 }
 
 impl Outline {
@@ -28,7 +25,6 @@ impl Outline {
             leaves_record: leaves_record(clause),
             only_records: only_records(clause),
             only_gives: only_gives(clause),
-            traced: traced_variable(clause),
         }
     }
 }

@@ -9,11 +9,12 @@ use crate::enabled::Enabled;
 use crate::processor::Processor;
 use crate::programs::Programs;
 use crate::scratch::Scratch;
+use crate::traced_ecb::TracedEcb;
 use crate::uses::Uses;
 use dt_aggstore::{AggStore, Aggregation};
 use dt_cred::Account;
 use dt_ecb::Ecb;
-use dt_expr::{EvalFault, NumberVariable, Scene};
+use dt_expr::{EvalFault, Scene};
 use dt_lang::Clause;
 use dt_life::{Context, END, Options, empty_stores, own_firing, own_process, scene_at};
 use dt_locals::Locals;
@@ -37,7 +38,7 @@ pub(crate) struct Processors {
 }
 
 impl Processors {
-    ghost use Rattle.std.specs.Prelude.{◌≡◌, ◌+◌, ◌-◌, ◌<◌, ◌==◌, ℕ, Bool, IsTrue, true, false, Some, None, List, [], ◌∷◌, ◌++◌, All, IfOk, IfSome, IsSomeAnd, length, map, slice_get, vec_len, if◌then◌else◌};
+    ghost use Rattle.std.specs.Prelude.{◌≡◌, ◌+◌, ◌-◌, ◌<◌, ◌==◌, ℕ, Bool, true, false, Some, None, List, [], ◌∷◌, ◌++◌, All, IfOk, IfSome, IsSomeAnd, length, map, slice_get, vec_len, if◌then◌else◌};
     ghost use Rattle.dt_aggstore.specs.Chosen.{drops};
     ghost use Rattle.dt_aggstore.specs.History as stores;
     ghost use Rattle.dt_aggstore.specs.declared.limits.TheConstants.{ADDED_LIMIT};
@@ -49,7 +50,9 @@ impl Processors {
     ghost use Rattle.dt_consumer.specs.Enabling.{IsEnabledBy};
     ghost use Rattle.dt_consumer.specs.Keeps.{AreAfter};
     ghost use Rattle.dt_consumer.specs.Uses.{AreUses, form_of_uses, given_of, with_given};
-    ghost use Rattle.dt_lang.specs.Program.{form_of_clause};
+    ghost use Rattle.dt_consumer.specs.TracedEcbs.{traced_among, traced_of};
+    ghost use Rattle.dt_ecb.specs.declared.parts.Ecb.{Ecb};
+    ghost use Rattle.dt_lang.specs.Program.{ClauseForm, form_of_clause};
     ghost use Rattle.dt_consumer.specs.Tallies.{AreTallied, Tally, changed_at, new_tally, with_left, with_outcome, with_records};
     ghost use Rattle.dt_life.specs.Takings.{puts_in};
     ghost use Rattle.dt_cred.specs.declared.account.Account.{Account};
@@ -124,7 +127,8 @@ impl Processors {
     /// Takes the ECBs of the probe that fires, on the processor of the firing, up to the first that exits, and answers
     /// its status. It takes no memory.
     ///
-    /// Where there is one ECB, whose clause traces a variable and does nothing else, it is taken here, and needs nothing of what others do.
+    /// Where there is one ECB, whose clause is one `trace` of a variable that names a number, without a predicate, it is taken here, and needs nothing of what
+    /// others do.
     #[inline(always)]
     pub(crate) fn take(
         &mut self,
@@ -147,15 +151,18 @@ impl Processors {
         // for each set-up with these clauses, and steps that hold nothing of END: who is after them is then after these ECBs' takings too
         ensures after { (account : Account) (registry : Registry) (s : SetUp) (steps : List TracingStep)
             → map form_of_clause programs.now.clauses.items ≡ s.clauses → AreUses (shapes_in s) s.clauses uses.now
+            → list.now.traced ≡ traced_among s.clauses list.now.ecbs.items
             → AreAfter account registry s steps self.old → ((cpu : ℕ) → of_end (comes_by_steps cpu steps) ≡ [])
             → AreAfter account registry s (steps_and steps
             (takings_by false s.options steps (form_of_context context.now) s.clauses list.now.ecbs.items)) self.new }
         ensures exit { (account : Account) (registry : Registry) (s : SetUp) (steps : List TracingStep)
             → map form_of_clause programs.now.clauses.items ≡ s.clauses → AreUses (shapes_in s) s.clauses uses.now
+            → list.now.traced ≡ traced_among s.clauses list.now.ecbs.items
             → AreAfter account registry s steps self.old → ((cpu : ℕ) → of_end (comes_by_steps cpu steps) ≡ [])
             → result ≡ first_exit (takings_by false s.options steps (form_of_context context.now) s.clauses list.now.ecbs.items) }
     {
-        if list.ecbs.len() == 1 && self.take_traced(programs, list.ecbs[0], context) {
+        if let Some(traced) = list.traced {
+            self.take_traced(traced, context);
             return None;
         }
         let enabled = Enabled {
@@ -321,65 +328,47 @@ impl Processors {
         None
     }
 
-    /// Takes an ECB whose clause traces a variable and does nothing else, and answers whether it is such a one: of another nothing is taken.
+    /// Takes an ECB whose clause is one `trace` of a variable that names a number, without a predicate.
     #[inline(always)]
-    fn take_traced(&mut self, programs: &Programs, ecb: Ecb, context: &Context) -> bool
+    fn take_traced(&mut self, traced: TracedEcb, context: &Context)
         requires there { context.now.firing.now.cpu < vec_len self.old.all }
-        requires placed { ecb.clause < vec_len programs.now.clauses }
         requires counts { All (AtMost (DROPS_LIMIT - COMES_BY_ONE)) self.old.all.items }
-        ensures other { result ≡ false → self.new ≡ self.old }
         ensures len { vec_len self.new.all ≡ vec_len self.old.all }
         ensures counts { (n : ℕ) → All (AtMost n) self.old.all.items → All (AtMost (n + COMES_BY_ONE)) self.new.all.items }
         ensures locals { self.new.locals ≡ self.old.locals }
         ensures specs { self.new.specs ≡ self.old.specs }
         ensures stores { self.new.stores ≡ self.old.stores }
-        ensures after { IsTrue result → (account : Account) (registry : Registry) (s : SetUp) (steps : List TracingStep)
-            → map form_of_clause programs.now.clauses.items ≡ s.clauses → AreAfter account registry s steps self.old
+        // for each set-up, and each ECB of which this is so
+        ensures after { (account : Account) (registry : Registry) (s : SetUp) (steps : List TracingStep) (ecb : Ecb)
+            → traced_of s.clauses ecb ≡ Some traced → AreAfter account registry s steps self.old
             → ((cpu : ℕ) → of_end (comes_by_steps cpu steps) ≡ []) → AreAfter account registry s
             (steps ++ takes (taking_by false s.options steps (form_of_context context.now) s.clauses ecb) ∷ []) self.new }
-        ensures exit { IsTrue result → (account : Account) (registry : Registry) (s : SetUp) (steps : List TracingStep)
-            → map form_of_clause programs.now.clauses.items ≡ s.clauses → AreAfter account registry s steps self.old
+        ensures exit { (account : Account) (registry : Registry) (s : SetUp) (steps : List TracingStep) (ecb : Ecb)
+            → traced_of s.clauses ecb ≡ Some traced
             → exit_of (taking_by false s.options steps (form_of_context context.now) s.clauses ecb) ≡ None }
     {
-        let Some(variable) = programs.outlines()[ecb.clause].traced else {
-            return false;
-        };
-        let clause = &programs.clauses()[ecb.clause];
-        let scene = scene_at(context, ecb.epid);
-        self.trace_one(
-            ecb.epid,
-            variable,
-            clause,
-            &scene,
-            context.firing.cpu as usize,
-        );
-        true
+        let scene = scene_at(context, traced.epid);
+        self.trace_one(traced, &scene, context.firing.cpu as usize);
     }
 
-    /// Takes a clause that traces a variable and does nothing else: its record goes into the processor's buffer. The clause is there for the contract.
+    /// Puts the record of an ECB that traces a variable into the processor's buffer.
     #[inline(always)]
-    fn trace_one(
-        &mut self,
-        epid: u32,
-        variable: NumberVariable,
-        _clause: &Clause,
-        scene: &Scene,
-        cpu: usize,
-    )
+    fn trace_one(&mut self, traced: TracedEcb, scene: &Scene, cpu: usize)
         requires there { cpu < vec_len self.old.all }
-        requires traced { traced_variable (form_of_clause _clause.now) ≡ Some variable }
         requires counts { All (AtMost (DROPS_LIMIT - 1)) self.old.all.items }
         ensures len { vec_len self.new.all ≡ vec_len self.old.all }
         ensures stores { self.new.stores ≡ self.old.stores }
         ensures locals { self.new.locals ≡ self.old.locals }
         ensures specs { self.new.specs ≡ self.old.specs }
         ensures counts { (n : ℕ) → All (AtMost n) self.old.all.items → All (AtMost (n + 1)) self.new.all.items }
-        ensures recorded { (past : TracingPast) (tallies : ℕ → Tally)
+        // for each clause that traces the variable
+        ensures recorded { (clause : ClauseForm) (past : TracingPast) (tallies : ℕ → Tally)
+            → traced_variable clause ≡ Some traced.variable
             → EndLast (tallies cpu).came false → AreTallied tallies self.old.all.items → AreTallied
-            (changed_at tallies cpu (with_outcome false (taking epid (scene_of scene.now) past (form_of_clause _clause.now)).outcome
+            (changed_at tallies cpu (with_outcome false (taking traced.epid (scene_of scene.now) past clause).outcome
             (tallies cpu))) self.new.all.items }
     {
-        let record = traced_record(epid, variable, scene);
+        let record = traced_record(traced.epid, traced.variable, scene);
         let _put = self.all[cpu].buffer.put(&record, false);
     }
 

@@ -117,8 +117,9 @@ impl Tracing {
             (ecbs_in account.now machine.now.registry s) [] began) ≡ begun.1)) }
     {
         let probes = machine.probes().len() as u32;
-        let lists = EcbList::for_each(alloc, programs.ecbs(), probes + 1)?;
-        let uses = Uses::of_each(alloc, &programs.shapes, programs.clauses())?;
+        let clauses = programs.clauses();
+        let lists = EcbList::for_each(alloc, programs.ecbs(), clauses, probes + 1)?;
+        let uses = Uses::of_each(alloc, &programs.shapes, clauses)?;
         let mut processors = Processors::new(alloc, options, reserve, machine.cpus())?;
         let context = Context {
             probe: machine.probe(BEGIN).unwrap(),
@@ -126,7 +127,7 @@ impl Tracing {
             firing: &own_firing(BEGIN),
         };
         let enabled = Enabled {
-            clauses: programs.clauses(),
+            clauses,
             outlines: programs.outlines(),
             uses: &uses,
         };

@@ -2,7 +2,6 @@
 use Rattle.std.proofs.Common.{◌∷◌, [], false, sym, ap, subst, ◌∙◌, arith}
 use Rattle.std.specs.List.{slice_set}
 use Rattle.dt_expr.specs.Scene.{scene_of}
-use Rattle.dt_lang.specs.Program.{form_of_clause}
 use Rattle.dt_record.specs.Taking.{leaves, bare_record}
 use Rattle.dt_record.specs.laws.Traced.{traced_leaves}
 use Rattle.dt_consumer.specs.Tallies.{AreTallied, changed_at, with_outcome, with_records}
@@ -11,7 +10,7 @@ use Rattle.dt_consumer.proofs.Tallying.{tallied_changed}
 use Rattle.dt_consumer.proofs.processors.Processors.trace_one.Goals as goal
 
 pub returns-clause-recorded : goal.returns-clause-recorded
-returns-clause-recorded c = λ past tallies last h.
+returns-clause-recorded c = λ clause past tallies known last h.
     let own = c.args.self.now in
     let cpu = c.args.cpu in
     let tally = tallies cpu in
@@ -22,8 +21,8 @@ returns-clause-recorded c = λ past tallies last h.
       dyndrops = was.dyndrops;
       specdrops = was.specdrops;
     } in
-    let comes = traced_leaves c.args.epid (scene_of c.args.scene.now) past (form_of_clause c.args._clause.now) c.args.variable
-    c.requires.traced ∙ ap (λ bytes. leaves (bare_record bytes)) (sym c.traced_record-record.ensures) in
+    let comes = traced_leaves c.args.traced.epid (scene_of c.args.scene.now) past clause c.args.traced.variable known
+    ∙ ap (λ bytes. leaves (bare_record bytes)) (sym c.traced_record-record.ensures) in
     subst (λ o. AreTallied (changed_at tallies cpu (with_outcome false o tally)) (slice_set own.all.items cpu now)) (sym comes)
     (tallied_changed tallies cpu (with_records false (c.traced_record-record.result ∷ []) tally) own.all.items was now
     (omega (arith, c.requires.there)) c.index_mut.ensures.value

@@ -10,6 +10,7 @@ use Rattle.dt_life.specs.Options.{OptionsForm}
 use Rattle.dt_consumer.specs.Counts.{COMES_MAX, GIVES_MAX}
 use Rattle.dt_consumer.specs.Placing.{IsPlaced}
 use Rattle.dt_consumer.specs.Recording.{outlines_of}
+use Rattle.dt_consumer.specs.TracedEcbs.{traced_among}
 use Rattle.dt_consumer.specs.Uses.{AreUses}
 use Rattle.dt_consumer.proofs.Giving.{uses_long}
 use Rattle.dt_life.specs.Takings.{began}
@@ -23,11 +24,10 @@ use Rattle.dt_consumer.proofs.tracing.Tracing.begun.Goals as goal
 
 pub invariant_of-enabled : goal.invariant_of-enabled
 invariant_of-enabled c = record {
-  known = c.outlines.ensures ∙ ap outlines_of (sym c.clauses-2.ensures.value);
+  known = c.outlines.ensures ∙ ap outlines_of (sym c.clauses-clauses.ensures.value);
   each =
       ap length c.deref.ensures.value
-      ∙ uses_long _ c.clauses.result.now c.in_ok-uses.uses.items c.in_ok-uses.ensures
-      ∙ ap length (c.clauses.ensures.value ∙ sym c.clauses-2.ensures.value);
+      ∙ uses_long _ c.clauses-clauses.result.now c.in_ok-uses.uses.items c.in_ok-uses.ensures;
 }
 
 pub invariant_of-tracing : goal.invariant_of-tracing
@@ -42,8 +42,8 @@ invariant_of-tracing c = record {
       (subst (λ n. All (IsPlaced n) c.ecbs.result.now)
       (omega (
         arith,
-        uses_long _ c.clauses.result.now c.in_ok-uses.uses.items c.in_ok-uses.ensures,
-        ap length c.clauses.ensures.value,
+        uses_long _ c.clauses-clauses.result.now c.in_ok-uses.uses.items c.in_ok-uses.ensures,
+        ap length c.clauses-clauses.ensures.value,
       ))
       c.ecbs.ensures.placed) c.in_ok-lists.ensures.lists;
   few = c.args.options.few;
@@ -76,11 +76,11 @@ returns-clause-fired c = λ s same own kept shaped room.
     let named : BEGIN ≡ c.own_firing.result.probe = sym (ap (λ (f : Firing). f.probe) c.own_firing.ensures) in
     let its = subst (λ n. ListOf account registry fresh n list) named
     (list_at account registry fresh c.in_ok-lists.lists.items BEGIN list lists long c.index.ensures) in
-    let own_clauses = ap (map form_of_clause) c.clauses-2.ensures.value ∙ own in
+    let own_clauses = ap (map form_of_clause) c.clauses-clauses.ensures.value ∙ own in
     let used : AreUses (shapes_in s) s.clauses c.in_ok-uses.uses.items =
     subst (λ shapes. AreUses shapes s.clauses c.in_ok-uses.uses.items) shaped
     (subst (λ cs. AreUses (shapes_of c.args.programs.now.shapes) cs c.in_ok-uses.uses.items)
-    (ap (map form_of_clause) c.clauses.ensures.value ∙ own) c.in_ok-uses.ensures) in
+    (ap (map form_of_clause) c.clauses-clauses.ensures.value ∙ own) c.in_ok-uses.ensures) in
     let fresh_ones = since_moved account registry s [] [] c.in_ok-processors.processors
     (c.in_ok-processors.ensures.after account registry s same room) in
     let fired = fired_at account registry fresh began m list c.take_each-exit.new.self c.take_each-exit.result tt at refl its
@@ -91,6 +91,8 @@ returns-clause-fired c = λ s same own kept shaped room.
     (record { clauses = own_clauses; uses = subst (AreUses (shapes_in s) s.clauses) (sym c.deref.ensures.value) used }) fresh_ones (λ cpu. refl)) in (
       record {
         lists = lists;
+        traced = subst (λ cs. (probe : ℕ) → IfSome (slice_get c.in_ok-lists.lists.items probe)
+            (λ list. list.traced ≡ traced_among cs list.ecbs.items)) own_clauses c.in_ok-lists.ensures.traced;
         all_lists = omega (arith, c.in_ok-lists.ensures.len, ap length c.probes.ensures.value);
         processors = fired.after;
         all_processors = omega (arith, c.take_each-exit.ensures.len, c.in_ok-processors.ensures.len, c.cpus.ensures.value);
@@ -105,7 +107,7 @@ returns-clause-fired c = λ s same own kept shaped room.
 
 pub take_each-exit-requires-clause-placed : goal.take_each-exit-requires-clause-placed
 take_each-exit-requires-clause-placed c =
-    let clauses = c.clauses-2.result.now in
+    let clauses = c.clauses-clauses.result.now in
     placed_at (length clauses) c.in_ok-lists.lists.items BEGIN c.index.result.now
     (omega (
       arith,
@@ -115,5 +117,5 @@ take_each-exit-requires-clause-placed c =
     ))
     c.index.ensures
     (lists_placed (length clauses) c.ecbs.result.now c.in_ok-lists.lists.items
-    (subst (λ n. All (IsPlaced n) c.ecbs.result.now) (omega (arith, ap length c.clauses-2.ensures.value)) c.ecbs.ensures.placed)
+    (subst (λ n. All (IsPlaced n) c.ecbs.result.now) (omega (arith, ap length c.clauses-clauses.ensures.value)) c.ecbs.ensures.placed)
     c.in_ok-lists.ensures.lists)

@@ -11,6 +11,7 @@ returns-then-is_running-clause-running c = λ account registry s t off.
     let own = c.args.self.now.processors in
     record {
       lists = t.lists;
+      traced = t.traced;
       all_lists = t.all_lists;
       processors = since_moved account registry s (closed ∷ s.since) _ own
           (subst (λ steps. AreAfter account registry s steps own) (sym (steps_close account registry s)) t.processors);

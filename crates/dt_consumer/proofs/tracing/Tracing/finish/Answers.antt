@@ -33,6 +33,7 @@ returns-clause-ended c = λ s t own.
     let its = list_at account registry s c.args.self.now.lists.items END list t.lists (omega arith) c.index-list.ensures in
     record {
       lists = t.lists;
+      traced = t.traced;
       all_lists = t.all_lists;
       processors = end_fired account registry s c.args.end list c.fire_end.new.self its
           (c.fire_end.ensures.after s (tracing_steps account registry s)

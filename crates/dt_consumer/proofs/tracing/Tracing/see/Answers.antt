@@ -12,7 +12,7 @@ use Rattle.dt_consumer.specs.Uses.{AreUses}
 use Rattle.dt_consumer.proofs.Counted.{below_limit, counted_on, given_below, given_more, given_on, left_on, none_more}
 use Rattle.dt_consumer.proofs.Counted.{failed_below, failed_more, failed_on, fails_more, one_left, one_more}
 use Rattle.dt_consumer.proofs.Tallying.{at_most_more}
-use Rattle.dt_consumer.proofs.Tracings.{becomes, end_fired, fired_at, list_at}
+use Rattle.dt_consumer.proofs.Tracings.{becomes, end_fired, fired_at, list_at, traced_at}
 use Rattle.dt_life.specs.laws.Tracings.{end_is, happens_last, happens_on}
 use Rattle.dt_consumer.proofs.tracing.Tracing.see.Goals as goal
 
@@ -26,14 +26,16 @@ returns-in-Some-clause-seen c = λ s firing t own at.
     let m = form_of_context c.args.context.now in
     let list = c.index-list.result.now in
     let steps = tracing_steps account registry s in
+    let known = traced_at s.clauses c.args.self.now.lists.items m.firing.probe list t.traced (omega (arith, c.requires.known))
+    c.index-list.ensures in
     let fired = fired_at account registry s (seen firing) m list c.take-exit.new.self c.take-exit.result tt at refl
     (list_at account registry s c.args.self.now.lists.items m.firing.probe list t.lists (omega (arith, c.requires.known))
     c.index-list.ensures)
     (t.end_last c.requires.going)
     (c.take-exit.ensures.after account registry s steps
-    own (subst (AreUses (shapes_in s) s.clauses) (sym c.deref.ensures.value) t.uses) t.processors (t.end_last c.requires.going))
+    own (subst (AreUses (shapes_in s) s.clauses) (sym c.deref.ensures.value) t.uses) known t.processors (t.end_last c.requires.going))
     (c.take-exit.ensures.exit account registry s steps
-    own (subst (AreUses (shapes_in s) s.clauses) (sym c.deref.ensures.value) t.uses) t.processors (t.end_last c.requires.going)) in
+    own (subst (AreUses (shapes_in s) s.clauses) (sym c.deref.ensures.value) t.uses) known t.processors (t.end_last c.requires.going)) in
     let next = with_event s (seen firing) in
     let end_list = c.index-list-in-Some.result.now in
     let its = list_at account registry next c.args.self.now.lists.items END end_list t.lists (omega arith)
@@ -44,6 +46,7 @@ returns-in-Some-clause-seen c = λ s firing t own at.
     becomes account registry _ _ _ (happens_last account registry s (seen firing) c.in-Some.end ends)
     (record {
       lists = t.lists;
+      traced = t.traced;
       all_lists = t.all_lists;
       processors = end_fired account registry next c.in-Some.end end_list c.fire_end.new.self its
           (c.fire_end.ensures.after next (tracing_steps account registry next)
@@ -63,14 +66,16 @@ returns-in_default-clause-seen c = λ s firing t own at.
     let m = form_of_context c.args.context.now in
     let list = c.index-list.result.now in
     let steps = tracing_steps account registry s in
+    let known = traced_at s.clauses c.args.self.now.lists.items m.firing.probe list t.traced (omega (arith, c.requires.known))
+    c.index-list.ensures in
     let fired = fired_at account registry s (seen firing) m list c.take-exit.new.self c.take-exit.result tt at refl
     (list_at account registry s c.args.self.now.lists.items m.firing.probe list t.lists (omega (arith, c.requires.known))
     c.index-list.ensures)
     (t.end_last c.requires.going)
     (c.take-exit.ensures.after account registry s steps
-    own (subst (AreUses (shapes_in s) s.clauses) (sym c.deref.ensures.value) t.uses) t.processors (t.end_last c.requires.going))
+    own (subst (AreUses (shapes_in s) s.clauses) (sym c.deref.ensures.value) t.uses) known t.processors (t.end_last c.requires.going))
     (c.take-exit.ensures.exit account registry s steps
-    own (subst (AreUses (shapes_in s) s.clauses) (sym c.deref.ensures.value) t.uses) t.processors (t.end_last c.requires.going)) in
+    own (subst (AreUses (shapes_in s) s.clauses) (sym c.deref.ensures.value) t.uses) known t.processors (t.end_last c.requires.going)) in
     let next = with_event s (seen firing) in
     let stays = end_is account registry s (seen firing) c.take-exit.result _ fired.exited
     (counted_is c.args.self.now.seen _ c.args.self.now.history _ t.seen t.history)
@@ -78,6 +83,7 @@ returns-in_default-clause-seen c = λ s firing t own at.
     becomes account registry _ _ _ (happens_on account registry s (seen firing) stays)
     (record {
       lists = t.lists;
+      traced = t.traced;
       all_lists = t.all_lists;
       processors = fired.after;
       all_processors = omega (arith, c.take-exit.ensures.len, t.all_processors);

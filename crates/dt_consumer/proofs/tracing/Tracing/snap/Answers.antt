@@ -17,6 +17,7 @@ returns-then-cpu-len-clause-snapped c = λ account registry s t.
     let steps = tracing_steps account registry s in
     record {
       lists = t.lists;
+      traced = t.traced;
       all_lists = t.all_lists;
       processors = since_moved account registry s (snapped cpu ∷ s.since) _ _ (record {
         each = taken_snapped account registry s steps all cpu t.processors.each c.index_mut.result.now c.snap.new.self
@@ -40,6 +41,7 @@ returns-else-cpu-len-clause-snapped c = λ account registry s t.
     let steps = tracing_steps account registry s in
     record {
       lists = t.lists;
+      traced = t.traced;
       all_lists = t.all_lists;
       processors = since_moved account registry s (snapped cpu ∷ s.since) _ _ (record {
         each = taken_snapped-past account registry s steps own.all.items cpu t.processors.each (omega arith);

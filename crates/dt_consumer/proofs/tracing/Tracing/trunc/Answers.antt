@@ -27,6 +27,7 @@ returns-clause-truncated c = λ account registry s name t is.
     let later = steps ++ truncates name ∷ [] in
     record {
       lists = t.lists;
+      traced = t.traced;
       all_lists = t.all_lists;
       processors = since_moved account registry s (truncated name ∷ s.since) _ _ (record {
         each = subst (λ (v : Vec Processor). AreTallied (tally_after account registry s later) v.items)
