@@ -61,8 +61,8 @@ pub(crate) fn note_down<J: HubSite>(facts: &Facts, log: &mut Both, followers: &V
 const AHEAD: u32 = 16;
 
 /// Reads the probes and the first arguments of the firings that a processor makes next, at each [`AHEAD`]th of its places: the greatest of them, and at other places what it was
-/// before. Nothing is made of it: but a script is read once, from one end to the other, and each firing lies on lines of its own, for which the processor would wait at each. Here
-/// many are asked for at once, and come in the time of one. What is asked of each firing, up to its first argument, lies on one line or on two.
+/// before. Nothing is made of it: but a script is read once, from one end to the other, and the processor would wait for the lines of each firing. Here many are asked for at once,
+/// and come in the time of one. What is asked of each firing, up to its first argument, lies on one line or on two.
 #[inline(always)]
 pub(crate) fn read_ahead(machine: &Machine, cpu: u32, place: u32, before: i64) -> i64 {
     if place % AHEAD == 0 {

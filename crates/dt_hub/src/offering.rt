@@ -1,5 +1,5 @@
 //! How a firing is offered to the seats that are named.
-ghost use Rattle.std.specs.Prelude.{◌≡◌, ◌+◌, ◌++◌, ◌∷◌, ℕ, List, [], Some, false, length, vec_len};
+ghost use Rattle.std.specs.Prelude.{◌≡◌, ◌==◌, ◌+◌, ◌++◌, ◌∷◌, ℕ, List, [], Some, false, true, length, vec_len, if◌then◌else◌};
 ghost use mathlib.Core.List.{IsPrefix};
 ghost use Rattle.dt_chain.specs.Chains.{IsMaskAfter};
 ghost use Rattle.dt_chain.specs.Limits.{seat_count};
@@ -7,7 +7,7 @@ ghost use Rattle.dt_chain.specs.Seats.{has, life_at};
 ghost use Rattle.dt_chain.specs.declared.seat_mask.SeatMask.{SeatMask};
 ghost use Rattle.dt_facts.specs.declared.fact.Knew.{Knew};
 ghost use Rattle.dt_hub.specs.Firings.{ComesToSeat, KnowsPublicationAt};
-ghost use Rattle.dt_hub.specs.Offering.{IsOfferedBut};
+ghost use Rattle.dt_hub.specs.Offering.{IsOfferedBut, missed_in};
 ghost use Rattle.dt_hub.specs.Processors.{AreAtSeats, AreTrackedBy, knew_at_seats};
 ghost use Rattle.dt_legal.specs.Rows.{AreBelowPlace};
 ghost use Rattle.dt_machine.specs.Context.{IsContext};
@@ -42,6 +42,19 @@ fn wait_for<'l, R: Wait, T>(rt: &R, lock: &'l Mutex<T>) -> MutexGuard<'l, T> {
         }
     }
     lock.lock(rt)
+}
+
+/// Notes a seat that was missed.
+#[cold]
+fn miss(missed: &mut Option<SeatSet>, seat: Seat)
+    ensures { (other : ℕ) → missed_in missed.new other ≡ (if other == seat then true else missed_in missed.old other) }
+{
+    let mut seats = match *missed {
+        Some(seats) => seats,
+        None => SeatSet::new(),
+    };
+    seats.insert(seat);
+    *missed = Some(seats);
 }
 
 impl<J: HubSite> Hub<J> {
@@ -101,7 +114,8 @@ impl<J: HubSite> Hub<J> {
         held
     }
 
-    /// Offers a firing to each seat that is named and whose lock is had without waiting, in order of the seats. It answers which were missed.
+    /// Offers a firing to each seat that is named and whose lock is had without waiting, in order of the seats. It answers which were missed, if some were: the set is
+    /// made at the first.
     #[inline(always)]
     fn offer_where_free<R: Wait, G: Gate>(
         &self,
@@ -113,7 +127,7 @@ impl<J: HubSite> Hub<J> {
         held: &mut Vec<Held>,
         reader: &mut ChainReader<J>,
         gate: &G,
-    ) -> SeatSet
+    ) -> Option<SeatSet>
         requires context { IsContext J.contents.registry context.now }
         requires script { firing_at J.contents.scripts context.now.firing.now.cpu context.now.firing.now.place
             ≡ Some context.now.firing.now }
@@ -121,11 +135,11 @@ impl<J: HubSite> Hub<J> {
         requires many { vec_len held.old ≡ seat_count }
         requires look { IsMaskAfter J.contents.registry reader.old.seen context.now.firing.now mask.now }
         requires reader { IsPrefix reader.old.seen reader.old.told }
-        ensures offered { IsOfferedBut J.contents context.now.firing.now mask.now reader.old.seen followers.old.items (has result)
+        ensures offered { IsOfferedBut J.contents context.now.firing.now mask.now reader.old.seen followers.old.items (missed_in result)
             held.new.items followers.new.items reader.new.told }
         ensures reader { (reader.new.seen ≡ reader.old.seen) × IsPrefix reader.old.told reader.new.told }
     {
-        let mut missed = SeatSet::new();
+        let mut missed = None;
         let mut left = mask.named();
         let mut next = 0;
         'seats: while let Some((seat, life)) = left.pop_first() {
@@ -144,7 +158,7 @@ impl<J: HubSite> Hub<J> {
                     gate,
                 );
             } else {
-                missed.insert(seat);
+                miss(&mut missed, seat);
             }
             next = at + 1;
         }
@@ -230,10 +244,9 @@ impl<J: HubSite> Hub<J> {
         ensures reader { (reader.new.seen ≡ reader.old.seen) × IsPrefix reader.old.told reader.new.told }
         ensures published { (seat : ℕ) → KnowsPublicationAt J.contents mask.now followers.new.items reader.new.told seat }
     {
-        let missed = self.offer_where_free(
+        if let Some(missed) = self.offer_where_free(
             rt, context, mask, scratch, followers, held, reader, gate,
-        );
-        if !missed.is_empty() {
+        ) {
             self.offer_to_missed(
                 rt, context, mask, missed, scratch, followers, held, reader, gate,
             );

@@ -5,23 +5,24 @@ use Rattle.std.specs.Option.{is_some}
 use Rattle.std.specs.List.{slice_get}
 use Rattle.dt_chain.specs.Limits.{seat_count}
 use Rattle.dt_chain.specs.Named.{life_left}
-use Rattle.dt_chain.specs.Seats.{has, life_at}
+use Rattle.dt_chain.specs.Seats.{life_at}
 use Rattle.dt_facts.specs.laws.Beginnings.{prefix_self, prefix_trans}
+use Rattle.dt_hub.specs.Offering.{missed_in}
 use Rattle.dt_hub.proofs.Rounds.{at_first, first_from, left_missed, left_taken, none_below, none_missed, none_missed_from, offered_more, offered_none, offered_same, same_from}
 use Rattle.dt_hub.proofs.hub.Hub.offer_where_free.Goals.{in-Some-try_lock, in_default-try_lock}
 use Rattle.dt_hub.proofs.hub.Hub.offer_where_free.Goals as goal
 
 pub seats-init : goal.seats-init
 seats-init g c =
-    let same : (seat : ℕ) → is_some (life_left c.named-left.result seat) || has c.new-missed.result seat ≡ is_some (life_at c.args.mask.now seat) =
-    λ seat. none_missed (life_left c.named-left.result seat) (life_at c.args.mask.now seat) (has c.new-missed.result seat)
-    (c.named-left.ensures seat) (c.new-missed.ensures seat) in
+    let same : (seat : ℕ) → is_some (life_left c.named-left.result seat) || false ≡ is_some (life_at c.args.mask.now seat) =
+    λ seat. none_missed (life_left c.named-left.result seat) (life_at c.args.mask.now seat) false
+    (c.named-left.ensures seat) refl in
     let answers : length c.args.held.now.items ≡ seat_count = search rules in
     record {
       low = omega arith;
       left_below = λ seat lt. absurd (omega (arith, lt));
       left_from = λ seat le. c.named-left.ensures seat;
-      missed_from = λ seat le. c.new-missed.ensures seat;
+      missed_from = λ seat le. refl;
       offered = offered_none g.J.Traced.contents c.args.context.now.firing.now c.args.mask.now c.args.reader.now.seen c.args.followers.now.items
           c.args.held.now.items c.args.reader.now.told _ c.requires.script c.requires.look c.requires.seats answers c.requires.reader same;
       seen = refl;
@@ -39,7 +40,7 @@ offer_at-requires-clause-follower g c =
     ∙ ap (λ f. Some f) (sym c.index_mut.ensures.value) in
     let at = at_first g.J.Traced.contents c.args.context.now.firing.now c.args.mask.now c.args.reader.now.seen c.args.followers.now.items
     _ c.seats.held.items c.seats.followers.items c.seats.reader.told n c.index_mut.result.now inv.offered
-    (ap (λ (o : Option ℕ). is_some o || has c.seats.missed n) was_left) there in
+    (ap (λ (o : Option ℕ). is_some o || missed_in c.seats.missed n) was_left) there in
     (at.seat_is ∙ c.number-at.ensures.value, at.cpu_is)
 
 pub offer_at-requires-clause-below : goal.offer_at-requires-clause-below
@@ -53,7 +54,7 @@ offer_at-requires-clause-below g c =
     ∙ ap (λ f. Some f) (sym c.index_mut.ensures.value) in
     (at_first g.J.Traced.contents c.args.context.now.firing.now c.args.mask.now c.args.reader.now.seen c.args.followers.now.items
     _ c.seats.held.items c.seats.followers.items c.seats.reader.told n c.index_mut.result.now inv.offered
-    (ap (λ (o : Option ℕ). is_some o || has c.seats.missed n) was_left) there).below
+    (ap (λ (o : Option ℕ). is_some o || missed_in c.seats.missed n) was_left) there).below
 
 pub seats-preserved : goal.seats-preserved
 seats-preserved g c =
@@ -66,7 +67,7 @@ seats-preserved g c =
     let small = c.number-at.ensures.small in
     let left : ℕ → Option ℕ = life_left c.seats.left in
     let new : ℕ → Option ℕ = life_left c.pop_first.new.self in
-    let missed : ℕ → Bool = has c.seats.missed in
+    let missed : ℕ → Bool = missed_in c.seats.missed in
     let was_left = ap left value ∙ c.in-Some.ensures.0 in
     let before : (seat : ℕ) → seat < n → left seat ≡ None = λ seat lt. c.in-Some.ensures.1 seat (omega (arith, lt, value)) in
     let taken : (other : ℕ) → new other ≡ (if other == n then None else left other) = λ other. rw value (c.in-Some.ensures.2 other) in
@@ -78,7 +79,7 @@ seats-preserved g c =
       left_from = same_from left new missed n taken (life_at mask) c.seats.next le inv.left_from;
       missed_from = λ seat far. elim c.match-try_lock.branch [
         | in-Some-try_lock w ↦ rw w.missed-is (inv.missed_from seat (omega (arith, far, le)))
-        | in_default-try_lock w ↦ rw w.missed-is (none_missed_from missed (has w.insert.new.self) n (λ other. rw value (w.insert.ensures other)) seat far
+        | in_default-try_lock w ↦ rw w.missed-is (none_missed_from missed (missed_in w.miss.new.missed) n (λ other. rw value (w.miss.ensures other)) seat far
             (inv.missed_from seat (omega (arith, far, le))))
       ];
       offered = elim c.match-try_lock.branch [
@@ -94,7 +95,7 @@ seats-preserved g c =
             w.offer_at.ensures.published (rw inv.seen at w.offer_at.ensures.tracked) w.offer_at.ensures.reader.1)
         | in_default-try_lock w ↦ rw (w.held-is, w.followers-is, w.reader-is, w.missed-is)
             (offered_same contents firing mask c.args.reader.now.seen c.args.followers.now.items _ _ c.seats.held.items c.seats.followers.items
-            c.seats.reader.told (left_missed left new missed n taken (has w.insert.new.self) _ was_left (λ other. rw value (w.insert.ensures other)))
+            c.seats.reader.told (left_missed left new missed n taken (missed_in w.miss.new.missed) _ was_left (λ other. rw value (w.miss.ensures other)))
             inv.offered)
       ];
       seen = elim c.match-try_lock.branch [
@@ -111,5 +112,5 @@ pub returns-clause-offered : goal.returns-clause-offered
 returns-clause-offered g c =
     let inv = c.seats.invariant in
     offered_same g.J.Traced.contents c.args.context.now.firing.now c.args.mask.now c.args.reader.now.seen c.args.followers.now.items
-    _ (has c.seats.missed) c.seats.held.items c.seats.followers.items c.seats.reader.told
-    (λ seat. sym (ap (λ (o : Option ℕ). is_some o || has c.seats.missed seat) (c.in_default.ensures.0 seat))) inv.offered
+    _ (missed_in c.seats.missed) c.seats.held.items c.seats.followers.items c.seats.reader.told
+    (λ seat. sym (ap (λ (o : Option ℕ). is_some o || missed_in c.seats.missed seat) (c.in_default.ensures.0 seat))) inv.offered
