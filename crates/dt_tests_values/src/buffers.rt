@@ -1,4 +1,5 @@
 //! The policies, as a table of puts with what the buffer then shows.
+use crate::asserts::{holds, same, word_holds};
 use dt_buffer::{DROPS_LIMIT, Policy, Principal, Put, SIZE_MAX};
 use std::alloc::Global;
 use std::process::Abort;
@@ -51,12 +52,23 @@ fn policies_show_what_the_table_says(rt: HostRuntime) -> Result<(), Fail> {
 
 /// Makes the line's buffer, does what its words say and compares what is shown.
 fn shows(rt: &impl Abort, alloc: Global, asked: &str, wanted: &str) -> Result<(), Fail> {
-    let (buffer, lengths) = played(rt, alloc, asked)?;
     let (places, end) = wanted.split_once(' ').ok_or("no end")?;
+    let (buffer, lengths) = played(rt, alloc, asked)?;
     let kept = kept(alloc, &lengths, places)?;
-    has(rt, alloc, &buffer, asked, &kept.0)?;
-    lends(rt, alloc, &buffer, asked, &kept)?;
-    assert!(rt; told(alloc, &buffer)?.as_str() == end, "{asked}");
+    is_left(rt, alloc, &buffer, asked, (&kept, end))
+}
+
+/// Compares a buffer's content, what it lends if it is a ring, and what it tells at the end.
+fn is_left(
+    rt: &impl Abort,
+    alloc: Global,
+    buffer: &Principal,
+    asked: &str,
+    (kept, end): (&(Vec<u8>, Vec<u32>), &str),
+) -> Result<(), Fail> {
+    has(rt, alloc, buffer, asked, &kept.0)?;
+    lends(rt, alloc, buffer, asked, kept)?;
+    same(rt, told(alloc, buffer)?.as_str(), end, asked);
     Ok(())
 }
 
@@ -85,7 +97,7 @@ fn plays(
     }
     lengths.push(digits(word))?;
     let found = put(buffer, lengths.len(), word).ok_or("no put")?;
-    assert!(rt; word.ends_with(found), "{word} in {asked}");
+    word_holds(rt, word.ends_with(found), word, asked);
     Ok(())
 }
 
@@ -97,7 +109,7 @@ fn has(
     asked: &str,
     bytes: &[u8],
 ) -> Result<(), Fail> {
-    assert!(rt; content(alloc, buffer)?.as_slice() == bytes, "{asked}");
+    holds(rt, content(alloc, buffer)?.as_slice() == bytes, asked);
     Ok(())
 }
 
@@ -109,10 +121,12 @@ fn lends(
     asked: &str,
     kept: &(Vec<u8>, Vec<u32>),
 ) -> Result<(), Fail> {
-    match lent(alloc, buffer)? {
-        Some(found) => assert!(rt; asked.starts_with("ring") && found == *kept, "{asked}"),
-        None => assert!(rt; !asked.starts_with("ring"), "{asked}"),
-    }
+    let is_ring = asked.starts_with("ring");
+    let is_so = match lent(alloc, buffer)? {
+        Some(found) => is_ring && found == *kept,
+        None => !is_ring,
+    };
+    holds(rt, is_so, asked);
     Ok(())
 }
 

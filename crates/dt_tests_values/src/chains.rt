@@ -1,4 +1,5 @@
 //! Publications, withdrawals and looks, as a table of them with what is named.
+use crate::asserts::word_holds;
 use dt_chain::{Entries, SEATS, Seat, SeatMask, SeatSet, Write};
 use dt_cred::Account;
 use dt_machine::{Firing, Interest, Machine, PROBE_ID_MAX};
@@ -55,26 +56,34 @@ fn looks_name_what_the_table_says(rt: HostRuntime) -> Result<(), Fail> {
 /// Does what a line's words say, and compares what is named.
 fn plays(rt: &impl Abort, alloc: Global, machine: &Machine, line: &str) -> Result<(), Fail> {
     let mut entries = Entries::new(alloc);
+    play_on(rt, alloc, machine, &mut entries, line)
+}
+
+/// Does what a line's words say on these entries.
+fn play_on(
+    rt: &impl Abort,
+    alloc: Global,
+    machine: &Machine,
+    entries: &mut Entries,
+    line: &str,
+) -> Result<(), Fail> {
     // one mask is lent to all looks of the line
     let mut lent = SeatMask::new();
     let mut words = line.split_whitespace();
     while let Some(word) = words.next() {
         let first = words.next().ok_or("no word")?;
-        match word {
+        let done = match word {
             "+" => {
                 let more = (words.next(), words.next(), words.next());
-                publishes(alloc, machine, &mut entries, first, more)?;
+                publishes(alloc, machine, entries, first, more)
             }
-            "-" => withdrawn(&mut entries, seat_of(first)?)?,
-            _ => looks(
-                rt,
-                alloc,
-                machine,
-                &entries,
-                &mut lent,
-                (line, first, words.next()),
-            )?,
-        }
+            "-" => withdrawn(entries, first),
+            _ => {
+                let asked = (line, first, words.next());
+                looks(rt, alloc, machine, entries, &mut lent, asked)
+            }
+        };
+        done?;
     }
     Ok(())
 }
@@ -107,7 +116,7 @@ fn looks(
     looked_into(entries, machine, &firing, lent);
     for mask in [looked(entries, machine, &firing), *lent] {
         let named = named(rt, alloc, mask)?;
-        assert!(rt; Some(named.as_str()) == wanted, "{word} in {line}");
+        word_holds(rt, Some(named.as_str()) == wanted, word, line);
     }
     Ok(())
 }
@@ -131,7 +140,8 @@ fn published(
 }
 
 /// Withdraws by the call on an even seat, and else by a write that is applied.
-fn withdrawn(entries: &mut Entries, seat: Seat) -> Result<(), Fail> {
+fn withdrawn(entries: &mut Entries, seat: &str) -> Result<(), Fail> {
+    let seat = seat_of(seat)?;
     if seat.number() % 2 == 0 {
         entries.withdraw(seat);
         return Ok(());
@@ -166,9 +176,8 @@ fn taken(rt: &impl Abort, mask: &mut SeatMask) -> Option<(u32, u64)> {
 fn named(rt: &impl Abort, alloc: Global, mut mask: SeatMask) -> Result<String, Fail> {
     let mut text = String::new(alloc);
     for _ in 0..SEATS {
-        if let Some((seat, life)) = taken(rt, &mut mask) {
-            let comma = if text.is_empty() { "" } else { "," };
-            text.push_str(format!(in alloc; "{comma}{seat}:{life}")?.as_str())?;
+        if let Some(taken) = taken(rt, &mut mask) {
+            push_seat(alloc, &mut text, taken)?;
         }
     }
     assert!(rt; mask.is_empty());
@@ -176,6 +185,13 @@ fn named(rt: &impl Abort, alloc: Global, mut mask: SeatMask) -> Result<String, F
         text.push_str("none")?;
     }
     Ok(text)
+}
+
+/// Adds a seat and its life.
+fn push_seat(alloc: Global, text: &mut String, (seat, life): (u32, u64)) -> Result<(), Fail> {
+    let comma = if text.is_empty() { "" } else { "," };
+    text.push_str(format!(in alloc; "{comma}{seat}:{life}")?.as_str())?;
+    Ok(())
 }
 
 /// The firing of a number, or one that is foreign: of `BEGIN`, of `END`, of the last or a further probe that can be

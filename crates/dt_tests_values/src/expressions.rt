@@ -6,6 +6,7 @@ use dt_expr::{
 use dt_locals::Locals;
 use dt_names::{Name, ProbeTuple, ShortText};
 use std::alloc::Global;
+use std::process::Abort;
 use std::test::Fail;
 
 /// In each line an expression and its value, or `fault` where it divides by zero. Each variable stands in the last ones.
@@ -195,18 +196,30 @@ fn variable_of(word: &str) -> Option<NumberVariable> {
 /// Takes a word: a number or a variable onto the stack, or an operator with its operands from there.
 fn take_word(alloc: Global, stack: &mut Vec<Expr>, word: &str) -> Option<()> {
     let expr = if let Some(op) = unary_of(word) {
-        Expr::Unary(op, Box::new(alloc, stack.pop()?).ok()?)
+        Expr::Unary(op, operand(alloc, stack)?)
     } else if let Some(op) = binary_of(word) {
-        let right = Box::new(alloc, stack.pop()?).ok()?;
-        Expr::Binary(op, Box::new(alloc, stack.pop()?).ok()?, right)
-    } else if let Some(variable) = variable_of(word) {
-        Expr::Variable(variable)
-    } else if let Some(name) = word.strip_prefix("self->") {
-        Expr::Local(Name::new(name.as_bytes())?)
+        let right = operand(alloc, stack)?;
+        Expr::Binary(op, operand(alloc, stack)?, right)
     } else {
-        Expr::Number(word.parse::<i64>().ok()?)
+        leaf_of(word)?
     };
     stack.push(expr).ok()
+}
+
+/// The operand that was taken last.
+fn operand(alloc: Global, stack: &mut Vec<Expr>) -> Option<Box<Expr>> {
+    Box::new(alloc, stack.pop()?).ok()
+}
+
+/// The variable or the number that a word writes.
+fn leaf_of(word: &str) -> Option<Expr> {
+    if let Some(variable) = variable_of(word) {
+        Some(Expr::Variable(variable))
+    } else if let Some(name) = word.strip_prefix("self->") {
+        Some(Expr::Local(Name::new(name.as_bytes())?))
+    } else {
+        Some(Expr::Number(word.parse::<i64>().ok()?))
+    }
 }
 
 /// The value of an expression, or nothing where it divides by zero.
@@ -329,7 +342,12 @@ fn gives_the_values_of_the_tables(rt: HostRuntime) -> Result<(), Fail> {
         firing: &firing,
     };
     let locals = variables(rt.alloc())?;
-    assert_eq!(rt; first_wrong_number(rt.alloc(), &scene, &locals), None);
-    assert_eq!(rt; first_wrong_text(&scene, &locals), None);
+    none_is_wrong(&rt, first_wrong_number(rt.alloc(), &scene, &locals));
+    none_is_wrong(&rt, first_wrong_text(&scene, &locals));
     Ok(())
+}
+
+/// Ends the test where there is a line that doesn't hold.
+fn none_is_wrong(rt: &impl Abort, wrong: Option<&str>) {
+    assert_eq!(rt; wrong, None);
 }

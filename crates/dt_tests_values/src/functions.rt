@@ -1,5 +1,6 @@
 //! The functions, as a table of values with what their cell answers.
-use dt_aggfn::{AggFn, Bounds, CELL_WORDS_MAX, CellAnswer};
+use crate::asserts::{holds, same};
+use dt_aggfn::{AggFn, Bounds, CELL_WORDS_MAX, CellAnswer, CountedRow};
 use std::alloc::{AllocError, Global};
 use std::process::Abort;
 use std::str::SplitWhitespace;
@@ -191,30 +192,63 @@ fn bounds_leave_some_levels_and_nothing_over(rt: HostRuntime) -> Result<(), Fail
 /// A cell, and what lies behind it.
 type Cell = [u64; CELL_WORDS_MAX];
 
-/// Makes the cell of the line's values one after the other, and each time again from two cells that are merged, and
-/// compares what they hold, and at last what is answered.
+/// The cell of all values, and those of every other one.
+#[derive(Drop)]
+struct Cells {
+    all: Cell,
+    odd: Cell,
+    even: Cell,
+}
+
+impl Cells {
+    fn new() -> Cells {
+        Cells {
+            all: [7; CELL_WORDS_MAX],
+            odd: [7; CELL_WORDS_MAX],
+            even: [7; CELL_WORDS_MAX],
+        }
+    }
+
+    /// Gives the value of this index.
+    fn take(&mut self, function: AggFn, index: usize, value: i64) {
+        take(function, &mut self.all, index == 0, value);
+        if index % 2 == 0 {
+            take(function, &mut self.odd, index < 2, value);
+        } else {
+            take(function, &mut self.even, index < 2, value);
+        }
+    }
+
+    /// Whether the cells of every other value make the one of all when they are merged.
+    fn are_alike(&self, function: AggFn) -> bool {
+        merged(function, self.odd, &self.even) == self.all
+    }
+}
+
+/// Makes the cell of the line's values, and compares what is answered.
 fn answers(rt: &impl Abort, alloc: Global, line: &str) -> Result<(), Fail> {
     let (given, expected) = line.split_once(" = ").ok_or("no answer")?;
     let mut words = given.split_whitespace();
     let function = function_of(&mut words).ok_or("no function")?;
-    let mut all = [7_u64; CELL_WORDS_MAX];
-    let mut odd = [7_u64; CELL_WORDS_MAX];
-    let mut even = [7_u64; CELL_WORDS_MAX];
-    for (index, word) in words.enumerate() {
-        let value = number(word);
-        take(function, &mut all, index == 0, value);
-        if index % 2 == 0 {
-            take(function, &mut odd, index < 2, value);
-        } else {
-            take(function, &mut even, index < 2, value);
-        }
-        if index > 0 {
-            assert!(rt; merged(function, odd, &even) == all, "{line}");
-        }
-    }
-    let answer = answer_of(alloc, function, &all)?;
-    assert!(rt; text_of(alloc, &answer)?.as_str() == expected, "{line}");
+    let cell = cell_of(rt, function, words, line);
+    same(
+        rt,
+        answer_of(alloc, function, &cell)?.as_str(),
+        expected,
+        line,
+    );
     Ok(())
+}
+
+/// Makes the cell of words one after the other, and each time again from two cells that are merged, and compares what
+/// they hold.
+fn cell_of(rt: &impl Abort, function: AggFn, words: SplitWhitespace, line: &str) -> Cell {
+    let mut cells = Cells::new();
+    for (index, word) in words.enumerate() {
+        cells.take(function, index, number(word));
+        holds(rt, index == 0 || cells.are_alike(function), line);
+    }
+    cells.all
 }
 
 /// Makes a cell that of its first value, or adds a value to it.
@@ -234,8 +268,12 @@ fn merged(function: AggFn, mut cell: Cell, other: &Cell) -> Cell {
     cell
 }
 
-fn answer_of(alloc: Global, function: AggFn, cell: &Cell) -> Result<CellAnswer, AllocError> {
-    function.answer(alloc, &cell[..function.cell_words()])
+/// What a cell answers, as the table writes it.
+fn answer_of(alloc: Global, function: AggFn, cell: &Cell) -> Result<String, AllocError> {
+    text_of(
+        alloc,
+        &function.answer(alloc, &cell[..function.cell_words()])?,
+    )
 }
 
 /// The function that words name; an `lquantize` has its bounds after its name.
@@ -267,14 +305,19 @@ fn text_of(alloc: Global, answer: &CellAnswer) -> Result<String, AllocError> {
     };
     let mut text = String::new(alloc);
     for row in rows {
-        let space = if text.is_empty() { "" } else { " " };
-        let one = match row.least {
-            Some(least) => format!(in alloc; "{space}{least}:{}", row.count)?,
-            None => format!(in alloc; "{space}null:{}", row.count)?,
-        };
-        text.push_str(one.as_str())?;
+        push_row(alloc, &mut text, row)?;
     }
     Ok(text)
+}
+
+/// Adds a row of an answer.
+fn push_row(alloc: Global, text: &mut String, row: &CountedRow) -> Result<(), AllocError> {
+    let space = if text.is_empty() { "" } else { " " };
+    let one = match row.least {
+        Some(least) => format!(in alloc; "{space}{least}:{}", row.count)?,
+        None => format!(in alloc; "{space}null:{}", row.count)?,
+    };
+    text.push_str(one.as_str())
 }
 
 /// The number that a word writes, or 0.

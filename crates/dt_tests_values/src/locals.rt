@@ -1,4 +1,5 @@
 //! Thread-local variables, as a table of assignments with what is answered and what variables then are.
+use crate::asserts::word_holds;
 use dt_locals::{DYNVARSIZE_MAX, LOCAL_DROPS_LIMIT, Locals};
 use dt_names::Name;
 use std::alloc::Global;
@@ -37,23 +38,54 @@ fn freed_room_is_taken_by_others(rt: HostRuntime) -> Result<(), Fail> {
     let name = Name::new(b"x").ok_or("name")?;
     let mut locals = locals(rt.alloc(), 2048)?;
     for thread in 0..101_u32 {
-        assert!(rt; set(&mut locals, 1, thread, &name, 7) == Some(thread < 64));
+        is_answered(&rt, &mut locals, (1, thread, &name), 7, thread < 64);
     }
     for thread in 64..101_u32 {
-        let earlier = thread.wrapping_mul(29) % 64;
-        assert!(rt; set(&mut locals, 1, earlier, &name, 0) == Some(true));
-        assert!(rt; set(&mut locals, 1, thread, &name, 8) == Some(true));
-        assert!(rt; set(&mut locals, 2, thread, &name, 9) == Some(false));
+        takes_freed_room(&rt, &mut locals, thread, &name);
     }
     for thread in 64..101_u32 {
-        let earlier = thread.wrapping_mul(29) % 64;
-        assert!(rt; locals.get(1, earlier, &name) == 0 && locals.get(1, thread, &name) == 8);
+        has_taken_room(&rt, &locals, thread, &name);
     }
     let left = (0..64)
         .filter(|thread| locals.get(1, *thread, &name) == 7)
         .count();
     assert!(rt; left == 27 && locals.drops() == 74);
     Ok(())
+}
+
+/// The thread whose room a later thread takes.
+fn earlier(thread: u32) -> u32 {
+    thread.wrapping_mul(29) % 64
+}
+
+/// Frees the room of an earlier thread, which this one then takes, and no other.
+fn takes_freed_room(rt: &impl Abort, locals: &mut Locals, thread: u32, name: &Name) {
+    is_answered(rt, locals, (1, earlier(thread), name), 0, true);
+    is_answered(rt, locals, (1, thread, name), 8, true);
+    is_answered(rt, locals, (2, thread, name), 9, false);
+}
+
+/// Ends the test where a thread hasn't the room of an earlier one.
+fn has_taken_room(rt: &impl Abort, locals: &Locals, thread: u32, name: &Name) {
+    assert!(rt;
+        locals.get(1, earlier(thread), name) == 0 && locals.get(1, thread, name) == 8,
+        "the room of {thread}"
+    );
+}
+
+/// Assigns a value to a variable, and ends the test where it isn't kept as is wanted.
+fn is_answered(
+    rt: &impl Abort,
+    locals: &mut Locals,
+    (pid, tid, name): (u32, u32, &Name),
+    value: i64,
+    is_kept: bool,
+) {
+    let found = set(locals, pid, tid, name, value);
+    assert!(rt;
+        found == Some(is_kept),
+        "{value} to the thread {tid} of {pid}: {found:?}"
+    );
 }
 
 /// Makes the line's variables, does what its words say and compares what they are.
@@ -77,7 +109,7 @@ fn says(rt: &impl Abort, locals: &mut Locals, line: &str, word: &str) -> Result<
     } else {
         assigns(locals, word)?
     };
-    assert!(rt; holds, "{word} in {line}");
+    word_holds(rt, holds, word, line);
     Ok(())
 }
 

@@ -1,5 +1,6 @@
 //! Patterns against texts, and the faults of texts that are no pattern.
 
+use crate::asserts::word_holds;
 use dt_glob::{GlobFault, PATTERN_MAX, Pattern};
 use std::process::Abort;
 use std::test::Fail;
@@ -80,7 +81,7 @@ fn check_line(rt: &impl Abort, line: &str) -> Result<(), Fail> {
             matched = false;
         } else {
             let found = matches(text_of(pattern), text_of(word))?;
-            assert!(rt; found == matched, "{word} in {line}");
+            word_holds(rt, found == matched, word, line);
         }
     }
     Ok(())

@@ -100,30 +100,32 @@ fn follows_the_table(rt: HostRuntime) -> Result<(), Fail> {
     Ok(())
 }
 
+/// Names of probes, and the classes of their providers.
+const CLASSES: &[(&[u8], Class)] = &[
+    (b"dtrace:::BEGIN", Class::Dtrace),
+    (b"syscall::read:entry", Class::Syscall),
+    (b"profile:::tick-1sec", Class::Profile),
+    (b"pid100:a:f:entry", Class::Pid(100)),
+    (b"pid0:a:f:entry", Class::Pid(0)),
+    (
+        b"pid9999999999999999999999999999:a:f:entry",
+        Class::Pid(9_999_999_999_999_999_999_999_999_999),
+    ),
+    (b"pid01:a:f:entry", Class::Other),
+    (b"pid:a:f:entry", Class::Other),
+    (b"pid-1:a:f:entry", Class::Other),
+    (b"pidx:a:f:entry", Class::Other),
+    (b"pid1x:a:f:entry", Class::Other),
+    (b"fbt:genunix:kmem_alloc:entry", Class::Other),
+    (b"syscalls::read:entry", Class::Other),
+    (b"dtrac:::BEGIN", Class::Other),
+];
+
 #[test]
 fn classes_follow_the_provider(rt: HostRuntime) -> Result<(), Fail> {
-    let rows: [(&[u8], Class); 14] = [
-        (b"dtrace:::BEGIN", Class::Dtrace),
-        (b"syscall::read:entry", Class::Syscall),
-        (b"profile:::tick-1sec", Class::Profile),
-        (b"pid100:a:f:entry", Class::Pid(100)),
-        (b"pid0:a:f:entry", Class::Pid(0)),
-        (
-            b"pid9999999999999999999999999999:a:f:entry",
-            Class::Pid(9_999_999_999_999_999_999_999_999_999),
-        ),
-        (b"pid01:a:f:entry", Class::Other),
-        (b"pid:a:f:entry", Class::Other),
-        (b"pid-1:a:f:entry", Class::Other),
-        (b"pidx:a:f:entry", Class::Other),
-        (b"pid1x:a:f:entry", Class::Other),
-        (b"fbt:genunix:kmem_alloc:entry", Class::Other),
-        (b"syscalls::read:entry", Class::Other),
-        (b"dtrac:::BEGIN", Class::Other),
-    ];
-    for (text, class) in rows {
+    for (text, class) in CLASSES {
         let probe = probe(text).ok_or("no probe")?;
-        assert_eq!(rt; probe.class, class, "{text:?}");
+        assert_eq!(rt; probe.class, *class, "{text:?}");
     }
     Ok(())
 }

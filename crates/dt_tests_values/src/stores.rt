@@ -1,12 +1,14 @@
 //! Stores, as a table of contributions and truncations with what is answered and what the table then shows.
 
+use crate::asserts::{holds, same};
 use arrayvec::ArrayVec;
-use dt_aggfn::{AggFn, Bounds, CellAnswer};
+use dt_aggfn::{AggFn, Bounds, CellAnswer, CountedRow};
 use dt_aggstore::{
     ADDED_LIMIT, AGGSIZE_MAX, AggStore, Aggregation, KEYS_MAX, Key, KeyPart, Row, RowKey,
 };
 use std::alloc::{AllocError, Global};
 use std::process::Abort;
+use std::str::SplitWhitespace;
 use std::test::Fail;
 
 /// In each line: the size of two stores, and then words in order. `@1:avg` names the aggregation that is meant
@@ -54,20 +56,24 @@ fn stores_show_what_the_table_says(rt: HostRuntime) -> Result<(), Fail> {
     Ok(())
 }
 
+/// The aggregation that a line means before it names one.
+const COUNT: Aggregation = Aggregation {
+    number: 1,
+    function: AggFn::Count,
+};
+
+const SUM: Aggregation = Aggregation {
+    number: 1,
+    function: AggFn::Sum,
+};
+
 #[test]
 fn many_keys_come_in_order(rt: HostRuntime) -> Result<(), Fail> {
-    let alloc = rt.alloc();
-    let aggregation = aggregation_of("1:sum").ok_or("aggregation")?;
-    let mut stores = [store(alloc, 2400)?, store(alloc, 2400)?];
+    let mut stores = stores(rt.alloc(), 2400)?;
     for store in stores.iter_mut() {
-        assert!(rt; is_filled(store, aggregation));
+        assert!(rt; is_filled(store, SUM));
     }
-    let rows = rows(alloc, &stores, aggregation)?;
-    assert!(rt; rows.len() == 100);
-    for (place, row) in rows.iter().enumerate() {
-        assert!(rt; is_row_at(alloc, place, row)?);
-    }
-    Ok(())
+    are_in_order(&rt, rt.alloc(), &rows(rt.alloc(), &stores, SUM)?)
 }
 
 /// Gives 101 keys to a store, and tells whether the first hundred were kept and the last one dropped.
@@ -79,6 +85,15 @@ fn is_filled(store: &mut AggStore, aggregation: Aggregation) -> bool {
             && give(store, aggregation, &number_key(number), number) == Some(n < 100);
     }
     is_filled
+}
+
+/// Ends the test where rows aren't those of the hundred keys.
+fn are_in_order(rt: &impl Abort, alloc: Global, rows: &[Row]) -> Result<(), Fail> {
+    assert!(rt; rows.len() == 100);
+    for (place, row) in rows.iter().enumerate() {
+        assert!(rt; is_row_at(alloc, place, row)?, "the row at {place}");
+    }
+    Ok(())
 }
 
 /// Whether a row is the one at this place, where each key was given twice.
@@ -97,21 +112,54 @@ fn is_row_at(alloc: Global, place: usize, row: &Row) -> Result<bool, Fail> {
 fn shows(rt: &impl Abort, alloc: Global, line: &str) -> Result<(), Fail> {
     let mut words = line.split_whitespace();
     let size = words.next().unwrap_or("0").parse().unwrap_or(0);
-    let mut stores = [store(alloc, size)?, store(alloc, size)?];
-    let mut aggregation = aggregation_of("1:count").ok_or("aggregation")?;
+    plays(rt, alloc, &mut stores(alloc, size)?, words, line)
+}
+
+/// Does what the words of a line say on its stores, and compares what is shown.
+fn plays(
+    rt: &impl Abort,
+    alloc: Global,
+    stores: &mut [AggStore; 2],
+    words: SplitWhitespace,
+    line: &str,
+) -> Result<(), Fail> {
+    let mut aggregation = COUNT;
     for word in words {
         if let Some(named) = word.strip_prefix('@') {
             aggregation = aggregation_of(named).ok_or("aggregation")?;
-        } else if word.starts_with('[') {
-            let table = table_text(alloc, &rows(alloc, &stores, aggregation)?)?;
-            assert!(rt; table.as_str() == word, "{word} in {line}");
-        } else if let Some(step) = word.strip_prefix('0') {
-            take(rt, alloc, &mut stores[0], aggregation, step)?;
-        } else if let Some(step) = word.strip_prefix('1') {
-            take(rt, alloc, &mut stores[1], aggregation, step)?;
+        } else {
+            play(rt, alloc, stores, aggregation, (word, line))?;
         }
     }
     Ok(())
+}
+
+/// Does what a word of a line says, or compares what it shows.
+fn play(
+    rt: &impl Abort,
+    alloc: Global,
+    stores: &mut [AggStore; 2],
+    aggregation: Aggregation,
+    (word, line): (&str, &str),
+) -> Result<(), Fail> {
+    if word.starts_with('[') {
+        same(
+            rt,
+            tables_text(alloc, stores, aggregation)?.as_str(),
+            word,
+            line,
+        );
+    } else if let Some(step) = word.strip_prefix('0') {
+        take(rt, alloc, &mut stores[0], aggregation, step)?;
+    } else if let Some(step) = word.strip_prefix('1') {
+        take(rt, alloc, &mut stores[1], aggregation, step)?;
+    }
+    Ok(())
+}
+
+/// Two stores of this size.
+fn stores(alloc: Global, size: usize) -> Result<[AggStore; 2], Fail> {
+    Ok([store(alloc, size)?, store(alloc, size)?])
 }
 
 /// A store of this size.
@@ -155,15 +203,31 @@ fn take(
     if step == "!" {
         forget(store, aggregation);
     } else if let Some(count) = step.strip_prefix('#') {
-        assert!(rt; counts(store).0 == count.parse()?, "{step}");
+        is_count(rt, counts(store).0, count, step);
     } else if let Some(count) = step.strip_prefix('~') {
-        assert!(rt; counts(store).1 == count.parse()?, "{step}");
+        is_count(rt, counts(store).1, count, step);
     } else if let Some(shown) = step.strip_prefix('=') {
-        assert!(rt; index_text(alloc, store)?.as_str() == shown, "{step}");
+        same(rt, index_text(alloc, store)?.as_str(), shown, step);
     } else {
-        let kept = adds(rt, store, aggregation, step)?;
-        assert!(rt; kept == Some(step.starts_with('+')), "{step}");
+        gives(rt, store, aggregation, step)?;
     }
+    Ok(())
+}
+
+/// Ends the test where a count isn't the one that a step writes.
+fn is_count(rt: &impl Abort, found: u64, written: &str, step: &str) {
+    assert!(rt; written.parse() == Ok(found), "{found}, and not {step}");
+}
+
+/// Gives the value of a step, which is kept where the step begins with `+`.
+fn gives(
+    rt: &impl Abort,
+    store: &mut AggStore,
+    aggregation: Aggregation,
+    step: &str,
+) -> Result<(), Fail> {
+    let kept = adds(rt, store, aggregation, step)?;
+    holds(rt, kept == Some(step.starts_with('+')), step);
     Ok(())
 }
 
@@ -229,6 +293,15 @@ fn text_part(text: &str) -> KeyPart {
     KeyPart::Text(bytes)
 }
 
+/// The table of both stores as a line writes it.
+fn tables_text(
+    alloc: Global,
+    stores: &[AggStore; 2],
+    aggregation: Aggregation,
+) -> Result<String, Fail> {
+    Ok(table_text(alloc, &rows(alloc, stores, aggregation)?)?)
+}
+
 /// A table as a line writes it.
 fn table_text(alloc: Global, rows: &[Row]) -> Result<String, AllocError> {
     let mut text = String::from_str(alloc, "[")?;
@@ -246,17 +319,27 @@ fn table_text(alloc: Global, rows: &[Row]) -> Result<String, AllocError> {
 fn index_text(alloc: Global, store: &AggStore) -> Result<String, AllocError> {
     let mut text = String::new(alloc);
     for (held, place) in store.index() {
-        if !text.is_empty() {
-            text.push(';')?;
-        }
-        text.push_str(key_text(alloc, held.key.parts.as_slice())?.as_str())?;
-        text.push_str(format!(in alloc; "@{place}")?.as_str())?;
+        push_held(alloc, &mut text, held.key.parts.as_slice(), *place)?;
     }
     for (place, word) in store.pool().iter().enumerate() {
-        text.push(if place == 0 { '/' } else { ',' })?;
-        text.push_str(format!(in alloc; "{word}")?.as_str())?;
+        let between = if place == 0 { '/' } else { ',' };
+        text.push_str(format!(in alloc; "{between}{word}")?.as_str())?;
     }
     Ok(text)
+}
+
+/// Adds a key of an index, with the place of its cell.
+fn push_held(
+    alloc: Global,
+    text: &mut String,
+    parts: &[KeyPart],
+    place: usize,
+) -> Result<(), AllocError> {
+    if !text.is_empty() {
+        text.push(';')?;
+    }
+    text.push_str(key_text(alloc, parts)?.as_str())?;
+    text.push_str(format!(in alloc; "@{place}")?.as_str())
 }
 
 /// A row's key as a line writes it.
@@ -282,17 +365,21 @@ fn key_text(alloc: Global, parts: &[KeyPart]) -> Result<String, AllocError> {
         }
         match part {
             KeyPart::Number(number) => text.push_str(format!(in alloc; "{number}")?.as_str())?,
-            KeyPart::Text(bytes) => {
-                text.push('\'')?;
-                for byte in bytes {
-                    if *byte != 0 {
-                        text.push(*byte as char)?;
-                    }
-                }
-            }
+            KeyPart::Text(bytes) => push_text(&mut text, bytes)?,
         }
     }
     Ok(text)
+}
+
+/// Adds a text of a key.
+fn push_text(text: &mut String, bytes: &[u8; 32]) -> Result<(), AllocError> {
+    text.push('\'')?;
+    for byte in bytes {
+        if *byte != 0 {
+            text.push(*byte as char)?;
+        }
+    }
+    Ok(())
 }
 
 /// A row as a line writes it.
@@ -301,16 +388,20 @@ fn row_text(alloc: Global, row: &Row) -> Result<String, AllocError> {
     text.push(':')?;
     match &row.value {
         CellAnswer::Number(value) => text.push_str(format!(in alloc; "{value}")?.as_str())?,
-        CellAnswer::Rows(rows) => {
-            for (place, counted) in rows.iter().enumerate() {
-                let between = if place == 0 { "" } else { "&" };
-                let one = match counted.least {
-                    Some(least) => format!(in alloc; "{between}{least}={}", counted.count)?,
-                    None => format!(in alloc; "{between}null={}", counted.count)?,
-                };
-                text.push_str(one.as_str())?;
-            }
-        }
+        CellAnswer::Rows(rows) => push_rows(alloc, &mut text, rows)?,
     }
     Ok(text)
+}
+
+/// Adds the rows of an answer.
+fn push_rows(alloc: Global, text: &mut String, rows: &[CountedRow]) -> Result<(), AllocError> {
+    for (place, counted) in rows.iter().enumerate() {
+        let between = if place == 0 { "" } else { "&" };
+        let one = match counted.least {
+            Some(least) => format!(in alloc; "{between}{least}={}", counted.count)?,
+            None => format!(in alloc; "{between}null={}", counted.count)?,
+        };
+        text.push_str(one.as_str())?;
+    }
+    Ok(())
 }
