@@ -1,4 +1,5 @@
 //! Lines of bytes, and what they ask.
+use crate::asserts::same;
 use dt_proto::{WholeLine, read_line};
 use std::alloc::Global;
 use std::test::Fail;
@@ -116,7 +117,7 @@ fn told_of_brackets(alloc: Global, len: usize) -> Result<String, Fail> {
 fn measures_before_it_reads(rt: HostRuntime) -> Result<(), Fail> {
     for (len, wanted) in [(65_536, "Json"), (65_537, "LineLong")] {
         let text = told_of_brackets(rt.alloc(), len)?;
-        assert_eq!(rt; text.as_str(), wanted);
+        same(&rt, text.as_str(), wanted, "brackets");
     }
     Ok(())
 }

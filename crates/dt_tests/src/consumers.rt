@@ -1,4 +1,5 @@
 //! Consumers: what each line is answered, and which firings are seen.
+use crate::asserts::same;
 use dt_aggfn::{AggFn, CellAnswer};
 use dt_aggstore::{Row, RowKey};
 use dt_consumer::{Consumer, Draft};
@@ -167,15 +168,20 @@ fn program(alloc: Global, clauses: &str) -> Result<String, Fail> {
     let mut text = String::new(alloc);
     for clause in clauses.split(" / ") {
         let (head, body) = clause.split_once(' ').unwrap_or((clause, ""));
-        let statement = match body {
-            "quotient" => "trace(arg0/arg1)",
-            "total" => "@total[arg1]=sum(arg0/arg1)",
-            "exit" => "exit(arg0)",
-            _ => "",
-        };
+        let statement = statement_of(body);
         text.push_str(format!(in alloc; "{head}{{{statement}}} ")?.as_str())?;
     }
     Ok(text)
+}
+
+/// The statement of a clause.
+fn statement_of(body: &str) -> &'static str {
+    match body {
+        "quotient" => "trace(arg0/arg1)",
+        "total" => "@total[arg1]=sum(arg0/arg1)",
+        "exit" => "exit(arg0)",
+        _ => "",
+    }
 }
 
 /// A table of sums as text: its function, and each key with its sum.
@@ -287,31 +293,35 @@ fn option(alloc: Global, text: &str) -> Result<Command, Fail> {
 /// The command of a step that is a line.
 fn command(alloc: Global, text: &str) -> Result<Command, Fail> {
     let (word, rest) = text.split_once(' ').unwrap_or((text, ""));
-    Ok(match word {
-        "program" => Command::Enable {
+    match word {
+        "program" => Ok(Command::Enable {
             text: program(alloc, rest)?,
-        },
-        "option" => option(alloc, rest)?,
-        "go" => Command::Go,
-        "stop" => Command::Stop,
-        "status" => Command::Status,
-        "close" => Command::Close,
-        "snap" => Command::Snap {
-            cpu: rest.parse::<u64>().ok().ok_or("no number")?,
-        },
-        "agg" => Command::Agg {
-            name: String::from_str(alloc, rest)?,
-        },
-        "trunc" => Command::Trunc {
-            name: String::from_str(alloc, rest)?,
-        },
-        "describe" => Command::Describe {
-            epid: rest.parse::<u64>().ok().ok_or("no number")?,
-        },
-        _ => Command::List {
-            probe: String::from_str(alloc, rest)?,
-        },
+        }),
+        "option" => option(alloc, rest),
+        "go" => Ok(Command::Go),
+        "stop" => Ok(Command::Stop),
+        "status" => Ok(Command::Status),
+        "close" => Ok(Command::Close),
+        "snap" => Ok(Command::Snap { cpu: number(rest)? }),
+        "describe" => Ok(Command::Describe {
+            epid: number(rest)?,
+        }),
+        _ => naming(alloc, word, rest),
+    }
+}
+
+/// The command of a step that names an aggregation or a probe.
+fn naming(alloc: Global, word: &str, name: &str) -> Result<Command, Fail> {
+    let name = String::from_str(alloc, name)?;
+    Ok(match word {
+        "agg" => Command::Agg { name },
+        "trunc" => Command::Trunc { name },
+        _ => Command::List { probe: name },
     })
+}
+
+fn number(word: &str) -> Result<u64, Fail> {
+    Ok(word.parse::<u64>().ok().ok_or("no number")?)
 }
 
 /// What a draft says of its line.
@@ -406,12 +416,34 @@ fn consumers_answer_what_the_rows_say(rt: HostRuntime) -> Result<(), Fail> {
     let alloc = rt.alloc();
     let machine = machine(alloc)?;
     let mut asking = consumer(alloc, &machine, "root")?;
+    play_rows(&rt, alloc, &machine, &mut asking)
+}
+
+/// Plays all rows, which begin with this consumer.
+fn play_rows(
+    rt: &impl Abort,
+    alloc: Global,
+    machine: &Machine,
+    asking: &mut Consumer,
+) -> Result<(), Fail> {
     for row in ROWS.lines() {
-        if let Some(name) = row.strip_prefix("account ") {
-            asking = consumer(alloc, &machine, name)?;
-        } else {
-            check_row(&rt, alloc, &machine, &mut asking, row)?;
-        }
+        play_row(rt, alloc, machine, asking, row)?;
+    }
+    Ok(())
+}
+
+/// Begins a consumer, or checks a row of the one that there is.
+fn play_row(
+    rt: &impl Abort,
+    alloc: Global,
+    machine: &Machine,
+    asking: &mut Consumer,
+    row: &str,
+) -> Result<(), Fail> {
+    if let Some(name) = row.strip_prefix("account ") {
+        *asking = consumer(alloc, machine, name)?;
+    } else {
+        check_row(rt, alloc, machine, asking, row)?;
     }
     Ok(())
 }
@@ -425,8 +457,12 @@ fn check_row(
     row: &str,
 ) -> Result<(), Fail> {
     if let Some((text, want)) = row.split_once(" = ") {
-        let told = answered(alloc, machine, consumer, text)?;
-        assert_eq!(rt; told.as_str(), want, "{text}");
+        same(
+            rt,
+            answered(alloc, machine, consumer, text)?.as_str(),
+            want,
+            text,
+        );
     }
     Ok(())
 }

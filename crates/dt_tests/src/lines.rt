@@ -20,20 +20,43 @@ const TABLE: &[(&str, &str)] = &[
 fn lines_do_not_depend_on_the_cutting(rt: HostRuntime) -> Result<(), Fail> {
     let alloc = rt.alloc();
     for (input, lines) in TABLE {
-        let mut text = Vec::new(alloc);
-        for byte in input.as_bytes() {
-            text.push(if *byte == b'/' { b'\n' } else { *byte })?;
-        }
-        for cut in 0..text.len() + 1 {
-            for second in cut..text.len() + 1 {
-                let pieces = [&text[..cut], &text[cut..second], &text[second..]];
-                assert!(rt;
-                    shown(alloc, &pieces)?.as_slice() == lines.as_bytes(),
-                    "{input}"
-                );
-            }
+        has_lines_however_cut(&rt, alloc, &bytes_of(alloc, input)?, lines)?;
+    }
+    Ok(())
+}
+
+/// The bytes of an input.
+fn bytes_of(alloc: Global, input: &str) -> Result<Vec<u8>, Fail> {
+    let mut bytes = Vec::new(alloc);
+    for byte in input.as_bytes() {
+        bytes.push(if *byte == b'/' { b'\n' } else { *byte })?;
+    }
+    Ok(bytes)
+}
+
+/// Cuts an input at each two places, and compares its lines.
+fn has_lines_however_cut(
+    rt: &impl Abort,
+    alloc: Global,
+    text: &[u8],
+    lines: &str,
+) -> Result<(), Fail> {
+    for cut in 0..text.len() + 1 {
+        for second in cut..text.len() + 1 {
+            let pieces = [&text[..cut], &text[cut..second], &text[second..]];
+            has_lines(rt, alloc, &pieces, lines)?;
         }
     }
+    Ok(())
+}
+
+/// Compares the lines of an input in pieces.
+fn has_lines(rt: &impl Abort, alloc: Global, pieces: &[&[u8]], lines: &str) -> Result<(), Fail> {
+    let shown = shown(alloc, pieces)?;
+    assert!(rt;
+        shown.as_slice() == lines.as_bytes(),
+        "{lines} in {pieces:?}"
+    );
     Ok(())
 }
 
@@ -79,9 +102,27 @@ fn lines_ask_the_same_however_they_are_cut(rt: HostRuntime) -> Result<(), Fail> 
     let alloc = rt.alloc();
     let input: &[u8] = b"{\"cmd\":\"status\"}\n\n{\"cmd\":\"go\"}";
     for cut in 0..input.len() + 1 {
-        let text = told(alloc, &[&input[..cut], &input[cut..]])?;
-        assert_eq!(rt; text.as_str(), "Status Json ", "cut at {cut}");
+        asks(&rt, alloc, input, cut, "Status Json ")?;
     }
+    Ok(())
+}
+
+/// Compares what an input asks that is cut in two at this place.
+fn asks(
+    rt: &impl Abort,
+    alloc: Global,
+    input: &[u8],
+    cut: usize,
+    wanted: &str,
+) -> Result<(), Fail> {
+    let (first, second) = input.split_at_checked(cut).ok_or("no cut")?;
+    let text = told(alloc, &[first, second])?;
+    assert_eq!(rt;
+        text.as_str(),
+        wanted,
+        "{} bytes, cut at {cut}",
+        input.len()
+    );
     Ok(())
 }
 
@@ -89,17 +130,21 @@ fn lines_ask_the_same_however_they_are_cut(rt: HostRuntime) -> Result<(), Fail> 
 fn status_with_blanks_is_read_up_to_the_limit(rt: HostRuntime) -> Result<(), Fail> {
     let alloc = rt.alloc();
     for (length, wanted) in [(65_536, "Status "), (65_537, "LineLong ")] {
-        let mut line = Vec::from_slice(alloc, b"{\"cmd\":\"status\"}")?;
-        line.resize(length, b' ')?;
-        line.push(b'\n')?;
+        let line = status_line(alloc, length)?;
         // cut in the words, after them, on both sides of the limit, and after the newline
         for cut in [0, 1, 9, 16, 17, 65_535, 65_536, length, line.len()] {
-            assert!(rt; cut <= line.len());
-            let text = told(alloc, &[&line[..cut], &line[cut..]])?;
-            assert_eq!(rt; text.as_str(), wanted, "{length} bytes, cut at {cut}");
+            asks(&rt, alloc, &line, cut, wanted)?;
         }
     }
     Ok(())
+}
+
+/// `status` with blanks up to a length, and its newline.
+fn status_line(alloc: Global, length: usize) -> Result<Vec<u8>, Fail> {
+    let mut line = Vec::from_slice(alloc, b"{\"cmd\":\"status\"}")?;
+    line.resize(length, b' ')?;
+    line.push(b'\n')?;
+    Ok(line)
 }
 
 /// Feeds a piece, and gives how many of its bytes were used, and the line that is whole then.
@@ -109,6 +154,21 @@ fn fed(alloc: Global, lines: &mut Lines, piece: &[u8]) -> Result<(usize, Option<
         return Ok((fed.used, None));
     }
     Ok((fed.used, Some(lines.line().to_asked(alloc)?)))
+}
+
+/// Feeds a piece, and compares how many of its bytes were used and the line that is whole then; `when` tells where in
+/// the input that is.
+fn feeds(
+    rt: &impl Abort,
+    alloc: Global,
+    lines: &mut Lines,
+    piece: &[u8],
+    wanted: &(usize, Option<Asked>),
+    (when, number): (&str, usize),
+) -> Result<(), Fail> {
+    let found = fed(alloc, lines, piece)?;
+    assert!(rt; found == *wanted, "{} bytes {when} {number}", piece.len());
+    Ok(())
 }
 
 #[test]
@@ -135,8 +195,8 @@ fn is_long(rt: &impl Abort, alloc: Global, pieces: [&[u8]; 2], long: bool) -> Re
     let cut = first.len();
     let mut lines = Lines::new(alloc)?;
     for piece in pieces {
-        let found = fed(alloc, &mut lines, piece)?;
-        assert!(rt; found == (piece.len(), None), "cut at {cut}");
+        let when = ("of a line cut at", cut);
+        feeds(rt, alloc, &mut lines, piece, &(piece.len(), None), when)?;
     }
     let wanted = if long {
         Asked::Long
@@ -155,14 +215,24 @@ fn ends(
     wanted: Asked,
     cut: usize,
 ) -> Result<(), Fail> {
-    let whole = fed(alloc, lines, b"\ny\nz")?;
-    assert!(rt; whole == (1, Some(wanted)), "cut at {cut}");
+    let whole = (1, Some(wanted));
+    feeds(
+        rt,
+        alloc,
+        lines,
+        b"\ny\nz",
+        &whole,
+        ("at the end of a line cut at", cut),
+    )?;
     let short = (2, Some(Asked::Line(b"y".to_vec(alloc)?)));
-    assert!(rt;
-        fed(alloc, lines, b"y\nz")? == short,
-        "after a line cut at {cut}"
-    );
-    Ok(())
+    feeds(
+        rt,
+        alloc,
+        lines,
+        b"y\nz",
+        &short,
+        ("after a line cut at", cut),
+    )
 }
 
 /// Inputs of 1,310,770 bytes or more, ten times the longest above: the bytes of each line, and how many lines there are.
@@ -185,14 +255,22 @@ fn long_inputs_have_all_their_lines(rt: HostRuntime) -> Result<(), Fail> {
     let alloc = rt.alloc();
     for (length, count) in LONG_INPUTS {
         let (input, wanted) = long_input(alloc, *length, *count)?;
-        let found = lines_in(alloc, &[&input])?;
-        assert!(rt; found.len() == *count, "{count} lines of {length}");
-        assert!(rt;
-            found.iter().all(|line| *line == wanted),
-            "lines of {length}"
-        );
+        are_all(&rt, &lines_in(alloc, &[&input])?, *count, &wanted);
     }
     Ok(())
+}
+
+/// Ends the test where lines aren't so many as this, or one is another.
+fn are_all(rt: &impl Abort, found: &[Asked], count: usize, wanted: &Asked) {
+    assert!(rt;
+        found.len() == count,
+        "{count} lines, and not {}",
+        found.len()
+    );
+    assert!(rt;
+        found.iter().all(|line| *line == *wanted),
+        "another of {count} lines"
+    );
 }
 
 #[test]
@@ -214,15 +292,24 @@ fn is_fed_as_one_piece(
     let (input, asked) = long_input(alloc, length, count)?;
     let wanted = (length.saturating_add(1), Some(asked));
     let mut lines = Lines::new(alloc)?;
-    let mut rest = input.as_slice();
+    feeds_all(rt, alloc, &mut lines, &input, &wanted, count)
+}
+
+/// Feeds an input of so many lines in one piece: each time its first line is used, and nothing is left at last.
+fn feeds_all(
+    rt: &impl Abort,
+    alloc: Global,
+    lines: &mut Lines,
+    input: &[u8],
+    wanted: &(usize, Option<Asked>),
+    count: usize,
+) -> Result<(), Fail> {
+    let mut rest = input;
     for place in 0..count {
-        assert!(rt;
-            fed(alloc, &mut lines, rest)? == wanted,
-            "line {place} of {length} bytes"
-        );
+        feeds(rt, alloc, lines, rest, wanted, ("from line", place))?;
         rest = rest.get(wanted.0..).ok_or("too few bytes")?;
     }
-    assert!(rt; rest.is_empty(), "lines of {length} bytes");
+    assert!(rt; rest.is_empty(), "{count} lines of {} bytes", wanted.0);
     Ok(())
 }
 
