@@ -2,6 +2,7 @@
 ghost use Rattle.std.specs.Prelude.{◌≡◌, ◌≤◌};
 ghost use Rattle.dt_trail.specs.Items.{whose};
 
+use crate::asserts::same;
 use dt_trail::{Item, Law, Trail, TrailNote, TrailOwner};
 use std::test::*;
 
@@ -48,7 +49,7 @@ fn what_a_note_knows_is_lawful(rt: HostRuntime) -> Result<(), Fail> {
     append_lawful(&mut owner, &mut session, 2, &Item::long_line());
     append_lawful(&mut owner, &mut session, 2, &Item::long_line());
     append_lawful(&mut owner, &mut session, 2, &Item::long_line());
-    assert_eq!(rt; owner.room(), 3);
-    assert_eq!(rt; caught_up(&mut other), 2);
+    same(&rt, "the room that is left", owner.room(), 3);
+    same(&rt, "what the note knows", caught_up(&mut other), 2);
     Ok(())
 }

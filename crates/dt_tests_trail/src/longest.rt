@@ -1,6 +1,7 @@
 //! A session's longest trail.
 ghost use Rattle.std.specs.Prelude.{◌<◌};
 
+use crate::asserts::same;
 use crate::writers::Writers;
 use dt_trail::{BLOCK_CELLS, TRAIL_CELLS, TRAIL_CELLS_MAX};
 use std::test::*;
@@ -16,16 +17,16 @@ fn fire_all(writers: &mut Writers, many: u32) {
 fn the_longest_trail_is_read_whole(rt: HostRuntime) -> Result<(), Fail> {
     let (mut writers, mut other, mut last) = Writers::open(rt.alloc(), TRAIL_CELLS)?;
     fire_all(&mut writers, 70_000);
-    assert_eq!(rt; writers.owner.room(), 0);
-    assert_eq!(rt; other.catch_up(), TRAIL_CELLS);
+    same(&rt, "room in the first block", writers.owner.room(), 0);
+    same(&rt, "the first block", other.catch_up(), TRAIL_CELLS);
     for _ in 0..15 {
         writers.widen(BLOCK_CELLS)?;
     }
-    assert_eq!(rt; writers.owner.cells(), TRAIL_CELLS_MAX);
-    assert_eq!(rt; other.catch_up(), TRAIL_CELLS);
+    same(&rt, "all cells", writers.owner.cells(), TRAIL_CELLS_MAX);
+    same(&rt, "before more items", other.catch_up(), TRAIL_CELLS);
     fire_all(&mut writers, 983_040);
-    assert_eq!(rt; writers.owner.room(), 0);
-    assert_eq!(rt; other.catch_up(), TRAIL_CELLS_MAX);
-    assert_eq!(rt; last.catch_up(), TRAIL_CELLS_MAX);
+    same(&rt, "room in the last block", writers.owner.room(), 0);
+    same(&rt, "all blocks", other.catch_up(), TRAIL_CELLS_MAX);
+    same(&rt, "all blocks at once", last.catch_up(), TRAIL_CELLS_MAX);
     Ok(())
 }

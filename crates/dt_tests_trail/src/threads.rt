@@ -2,6 +2,7 @@
 ghost use Rattle.std.specs.Prelude.{◌≡◌};
 ghost use Rattle.dt_trail.specs.Items.{whose};
 
+use crate::asserts::same;
 use crate::writers::{Note, Writers};
 use dt_trail::{Item, Seen};
 use std::sync::{Mutex, MutexGuard, Wait};
@@ -97,7 +98,7 @@ fn notes_follow_while_others_append(rt: HostRuntime) -> Result<(), Fail> {
         firings: 20_000,
         in_order: true,
     };
-    assert_eq!(rt; first, all);
-    assert_eq!(rt; second, all);
+    same(&rt, "the first note", first, all);
+    same(&rt, "the second note", second, all);
     Ok(())
 }

@@ -1,5 +1,6 @@
 //! One thread appends, and widens the trail where there is no room, while two others catch up.
 use crate::again::again;
+use crate::asserts::same;
 use crate::writers::{Note, Writers};
 use dt_trail::Seen;
 use std::alloc::AllocError;
@@ -89,10 +90,12 @@ fn run<R: Threads + Wait + Sync>(
 fn notes_catch_up_while_the_trail_widens(rt: HostRuntime) -> Result<(), Fail> {
     let (mut writers, mut one, mut two) = Writers::open(rt.alloc(), 100)?;
     let followed = run(&rt, &mut writers, &mut one, &mut two)?;
-    assert_eq!(rt; followed, [(10_000, true), (10_000, true)]);
-    assert_eq!(rt;
+    same(&rt, "the notes", followed, [(10_000, true), (10_000, true)]);
+    same(
+        &rt,
+        "widenings and cells",
         (writers.owner.widened(), writers.owner.cells()),
-        (20, 10_100)
+        (20, 10_100),
     );
     Ok(())
 }
@@ -101,7 +104,7 @@ fn notes_catch_up_while_the_trail_widens(rt: HostRuntime) -> Result<(), Fail> {
 fn notes_catch_up_while_another_appends(rt: HostRuntime) -> Result<(), Fail> {
     let (mut writers, mut one, mut two) = Writers::open(rt.alloc(), 10_000)?;
     let followed = run(&rt, &mut writers, &mut one, &mut two)?;
-    assert_eq!(rt; followed, [(10_000, true), (10_000, true)]);
-    assert_eq!(rt; writers.owner.widened(), 0);
+    same(&rt, "the notes", followed, [(10_000, true), (10_000, true)]);
+    same(&rt, "widenings", writers.owner.widened(), 0);
     Ok(())
 }
