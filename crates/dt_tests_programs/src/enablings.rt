@@ -1,4 +1,6 @@
 //! Worked rows: which ECBs a program adds, or for what it is refused, and what is listed.
+use crate::asserts::same;
+use dt_cred::Probe;
 use dt_ecb::{Ecb, EnableFault, RestrictedAction, Shapes, enable, listed};
 use dt_expr::{Expr, Text};
 use dt_lang::{
@@ -143,11 +145,11 @@ fn statement(alloc: Global, text: &str) -> Result<Statement, Fail> {
 fn aggregate(alloc: Global, function: &str, rest: &str) -> Result<Statement, Fail> {
     let (name, kinds) = rest.split_once(',').unwrap_or((rest, ""));
     let name = ShortText::new(name.as_bytes()).ok_or("no name")?;
-    let call = call(function)?;
     let keys = keys(alloc, kinds)?;
     if keys.len() > KEYS_MAX {
         return Err("too many keys".into());
     }
+    let call = call(function)?;
     Ok(Statement::Aggregate(AggregationUse { name, keys, call }))
 }
 
@@ -233,10 +235,14 @@ fn push_clauses(
 ) -> Result<(), Fail> {
     let number = format!(in alloc; "{time}")?;
     for part in text.split(" / ") {
-        let part = part.replace(alloc, "#", number.as_str())?;
-        clauses.push(clause(alloc, part.as_str())?)?;
+        clauses.push(numbered_clause(alloc, part, number.as_str())?)?;
     }
     Ok(())
+}
+
+/// A clause, with this number in the place of each `#`.
+fn numbered_clause(alloc: Global, text: &str, number: &str) -> Result<Clause, Fail> {
+    clause(alloc, text.replace(alloc, "#", number)?.as_str())
 }
 
 /// ECBs as text; of more than eight, how many, the first and the last.
@@ -314,21 +320,18 @@ fn clash(alloc: Global, what: &ShortText) -> Result<String, Fail> {
 /// The identifiers of the probes that are listed.
 fn listing(alloc: Global, machine: &Machine, row: &str) -> Result<String, Fail> {
     let (name, text) = row.split_once(' ').unwrap_or((row, ""));
-    let mut told = String::new(alloc);
-    for id in &shown(alloc, machine, name, text)? {
-        told.push_str(format!(in alloc; " {id}")?.as_str())?;
-    }
-    Ok(told)
-}
-
-fn shown(alloc: Global, machine: &Machine, name: &str, text: &str) -> Result<Vec<u32>, Fail> {
     let account = machine.account(name.as_bytes()).ok_or("no account")?;
     let description = description(text).ok_or("no description")?;
-    let mut ids = Vec::new(alloc);
-    for probe in &listed(alloc, account, machine, &description)? {
-        ids.push(probe.id)?;
+    identifiers(alloc, &listed(alloc, account, machine, &description)?)
+}
+
+/// The identifiers of probes, as text.
+fn identifiers(alloc: Global, probes: &[Probe]) -> Result<String, Fail> {
+    let mut told = String::new(alloc);
+    for probe in probes {
+        told.push_str(format!(in alloc; " {}", probe.id)?.as_str())?;
     }
-    Ok(ids)
+    Ok(told)
 }
 
 /// What a program uses, beside what is accepted.
@@ -366,13 +369,25 @@ fn worked_rows(rt: HostRuntime) -> Result<(), Fail> {
     let machine = machine(alloc)?;
     let mut shapes = Shapes::new(alloc);
     for row in ROWS.lines() {
-        if let Some(text) = row.strip_prefix("given ") {
-            shapes = accepted(alloc, &shapes, text)?;
-        } else if row == "forget" {
-            shapes = Shapes::new(alloc);
-        } else {
-            check_row(&rt, alloc, &machine, &shapes, row)?;
-        }
+        play_row(&rt, alloc, &machine, &mut shapes, row)?;
+    }
+    Ok(())
+}
+
+/// Accepts or forgets what a row says, or checks it.
+fn play_row(
+    rt: &impl Abort,
+    alloc: Global,
+    machine: &Machine,
+    shapes: &mut Shapes,
+    row: &str,
+) -> Result<(), Fail> {
+    if let Some(text) = row.strip_prefix("given ") {
+        *shapes = accepted(alloc, shapes, text)?;
+    } else if row == "forget" {
+        *shapes = Shapes::new(alloc);
+    } else {
+        check_row(rt, alloc, machine, shapes, row)?;
     }
     Ok(())
 }
@@ -386,8 +401,12 @@ fn check_row(
     row: &str,
 ) -> Result<(), Fail> {
     if let Some((asked, want)) = row.split_once(" =") {
-        let told = told(alloc, machine, shapes, asked)?;
-        assert_eq!(rt; told.as_str(), want, "{asked}");
+        same(
+            rt,
+            told(alloc, machine, shapes, asked)?.as_str(),
+            want,
+            asked,
+        );
     }
     Ok(())
 }

@@ -1,7 +1,9 @@
 //! What is found in a machine file that is read. What each is refused with, the built program shows; here, what
 //! of it a fault tells.
+use crate::asserts::same;
 use dt_machine::{Firing, Interest, Machine, PROBE_ID_MAX};
 use std::alloc::Global;
+use std::process::Abort;
 use std::test::Fail;
 
 /// A machine with two firings on processor 1: what a firing may leave out, and all that it may say.
@@ -76,35 +78,68 @@ fn machine(alloc: Global) -> Result<Machine, Fail> {
     Ok(Machine::read(alloc, MACHINE.as_bytes())?)
 }
 
+/// Identifiers, and the probes that they find.
+const PROBES: &[(u32, &str)] = &[
+    (0, "none"),
+    (1, "dtrace:::BEGIN"),
+    (5, "fbt:genunix:kmem_alloc:entry"),
+    (7, "none"),
+];
+
 #[test]
 fn probes_are_found(rt: HostRuntime) -> Result<(), Fail> {
     let machine = machine(rt.alloc())?;
     assert!(rt; machine.cpus() == 2 && machine.probes().len() == 6);
-    for (id, want) in [
-        (0, "none"),
-        (1, "dtrace:::BEGIN"),
-        (5, "fbt:genunix:kmem_alloc:entry"),
-        (7, "none"),
-    ] {
-        let found = probe(rt.alloc(), &machine, id)?;
-        assert_eq!(rt; found.as_str(), want);
+    for (id, want) in PROBES {
+        finds_probe(&rt, rt.alloc(), &machine, *id, want)?;
     }
     Ok(())
 }
 
+/// Compares the probe of an identifier.
+fn finds_probe(
+    rt: &impl Abort,
+    alloc: Global,
+    machine: &Machine,
+    id: u32,
+    want: &str,
+) -> Result<(), Fail> {
+    same(rt, probe(alloc, machine, id)?.as_str(), want, "the probe");
+    Ok(())
+}
+
+/// Processors, places on them, and the firings there.
+const FIRINGS: &[(u32, u32, &str)] = &[
+    (0, 0, "none"),
+    (1, 0, FIRST),
+    (1, 1, SECOND),
+    (1, 2, "none"),
+    (2, 0, "none"),
+];
+
 #[test]
 fn firings_are_found(rt: HostRuntime) -> Result<(), Fail> {
     let machine = machine(rt.alloc())?;
-    for (cpu, place, want) in [
-        (0, 0, "none"),
-        (1, 0, FIRST),
-        (1, 1, SECOND),
-        (1, 2, "none"),
-        (2, 0, "none"),
-    ] {
-        let found = firing(rt.alloc(), &machine, cpu, place)?;
-        assert_eq!(rt; found.as_str(), want);
+    for (cpu, place, want) in FIRINGS {
+        finds_firing(&rt, rt.alloc(), &machine, (*cpu, *place), want)?;
     }
+    Ok(())
+}
+
+/// Compares the firing at a place of a processor.
+fn finds_firing(
+    rt: &impl Abort,
+    alloc: Global,
+    machine: &Machine,
+    (cpu, place): (u32, u32),
+    want: &str,
+) -> Result<(), Fail> {
+    same(
+        rt,
+        firing(alloc, machine, cpu, place)?.as_str(),
+        want,
+        "the firing",
+    );
     Ok(())
 }
 
@@ -117,19 +152,22 @@ fn accounts_and_processes_are_found(rt: HostRuntime) -> Result<(), Fail> {
     Ok(())
 }
 
+/// A processor, a probe and a process, and whether a firing of them would belong to the machine.
+const BELONGING: &[(u32, u32, u32, bool)] = &[
+    (1, 3, 200, true),
+    (2, 3, 200, false),
+    (0, 2, 200, false),
+    (0, 7, 200, false),
+    (0, 3, 300, false),
+    (0, 6, 200, false),
+    (0, 6, 100, true),
+];
+
 #[test]
 fn a_firing_belongs_where_all_that_it_names_is(rt: HostRuntime) -> Result<(), Fail> {
     let machine = machine(rt.alloc())?;
-    for (cpu, probe, pid, want) in [
-        (1, 3, 200, true),
-        (2, 3, 200, false),
-        (0, 2, 200, false),
-        (0, 7, 200, false),
-        (0, 3, 300, false),
-        (0, 6, 200, false),
-        (0, 6, 100, true),
-    ] {
-        assert!(rt; would_belong(&machine, cpu, probe, pid) == Some(want));
+    for (cpu, probe, pid, want) in BELONGING {
+        assert!(rt; would_belong(&machine, *cpu, *probe, *pid) == Some(*want));
     }
     Ok(())
 }
@@ -178,14 +216,24 @@ const FAULTS: &[(&str, &str, &str)] = &[
 #[test]
 fn a_fault_tells_the_first_key_that_is_wrong(rt: HostRuntime) -> Result<(), Fail> {
     for (there, other, want) in FAULTS {
-        assert_eq!(rt; wrong_with(rt.alloc(), there, other)?.as_str(), *want);
+        tells_fault(
+            &rt,
+            rt.alloc(),
+            wrong_with(rt.alloc(), there, other)?.as_str(),
+            want,
+        )?;
     }
-    assert_eq!(rt; wrong_in(rt.alloc(), "[]")?.as_str(), "nothing");
+    tells_fault(&rt, rt.alloc(), "[]", "nothing")
+}
+
+/// Compares what is told to be wrong in a file.
+fn tells_fault(rt: &impl Abort, alloc: Global, text: &str, want: &str) -> Result<(), Fail> {
+    same(rt, wrong_in(alloc, text)?.as_str(), want, text);
     Ok(())
 }
 
-/// What is wrong where another text stands in the place of one.
+/// The file with another text in the place of one.
 fn wrong_with(alloc: Global, there: &str, other: &str) -> Result<String, Fail> {
     let (before, after) = MACHINE.split_once(there).ok_or("no such text")?;
-    wrong_in(alloc, format!(in alloc; "{before}{other}{after}")?.as_str())
+    Ok(format!(in alloc; "{before}{other}{after}")?)
 }

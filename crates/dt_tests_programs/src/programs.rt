@@ -1,4 +1,5 @@
 //! Texts of programs: which are read and which are refused, with the place and the cause, and what their expressions come to.
+use crate::asserts::holds;
 use dt_cred::{Mode, Probe, Process};
 use dt_expr::{Expr, NumberVariable, Scene, TextVariable, eval};
 use dt_lang::{
@@ -9,6 +10,7 @@ use dt_locals::Locals;
 use dt_machine::Firing;
 use dt_names::{Name, ProbeTuple, ShortText};
 use std::alloc::Global;
+use std::process::Abort;
 use std::test::Fail;
 
 /// In each line how a text is read, and the text: `read` where it is a program, and else the cause or the destructive
@@ -394,17 +396,28 @@ fn found_of(alloc: Global, text: &[u8]) -> Result<Option<String>, Fail> {
 /// What a line of a table says, and the text of which it says so.
 fn line_of(alloc: Global, line: &str) -> Option<(&str, Vec<u8>)> {
     let (told, written) = line.split_once('|')?;
-    let mut parts = written.split('|');
     let mut text = Vec::new(alloc);
-    text.extend_from_slice(parts.next()?.as_bytes()).ok()?;
-    if let Some(times) = parts.next() {
-        let middle = parts.next()?;
-        for _ in 0..times.parse::<usize>().ok()? {
-            text.extend_from_slice(middle.as_bytes()).ok()?;
-        }
-        text.extend_from_slice(parts.next()?.as_bytes()).ok()?;
-    }
+    push_written(&mut text, written)?;
     Some((told, text))
+}
+
+/// Adds a text that is written in one part or in four.
+fn push_written(text: &mut Vec<u8>, written: &str) -> Option<()> {
+    let mut parts = written.split('|');
+    push_times(text, 1, parts.next()?)?;
+    if let Some(times) = parts.next() {
+        push_times(text, times.parse::<usize>().ok()?, parts.next()?)?;
+        push_times(text, 1, parts.next()?)?;
+    }
+    Some(())
+}
+
+/// Adds a part as often as it stands there.
+fn push_times(text: &mut Vec<u8>, times: usize, part: &str) -> Option<()> {
+    for _ in 0..times {
+        text.extend_from_slice(part.as_bytes()).ok()?;
+    }
+    Some(())
 }
 
 /// Whether a line of the table is right.
@@ -416,10 +429,8 @@ fn is_right(alloc: Global, line: &str) -> Option<bool> {
 #[test]
 fn reads_programs_and_refuses_other_texts(rt: HostRuntime) {
     for line in TABLE.lines() {
-        assert!(rt;
-            line.is_empty() || is_right(rt.alloc(), line) == Some(true),
-            "{line}"
-        );
+        let is_so = line.is_empty() || is_right(rt.alloc(), line) == Some(true);
+        holds(&rt, is_so, line);
     }
 }
 
@@ -427,12 +438,19 @@ fn reads_programs_and_refuses_other_texts(rt: HostRuntime) {
 fn tells_what_was_found_where_it_refuses(rt: HostRuntime) -> Result<(), Fail> {
     for line in FOUND.lines() {
         if !line.is_empty() {
-            let (told, text) = line_of(rt.alloc(), line).ok_or("no line of the table")?;
-            let found = found_of(rt.alloc(), &text)?;
-            assert!(rt; found.is_some_and(|found| found.as_str() == told), "{line}");
+            holds(&rt, is_found(rt.alloc(), line)?, line);
         }
     }
     Ok(())
+}
+
+/// Whether what a line says is found of its text.
+fn is_found(alloc: Global, line: &str) -> Result<bool, Fail> {
+    let (told, text) = line_of(alloc, line).ok_or("no line of the table")?;
+    match found_of(alloc, &text)? {
+        Some(found) => Ok(found.as_str() == told),
+        None => Ok(false),
+    }
 }
 
 #[test]
@@ -488,25 +506,29 @@ fn outcome_of(alloc: Global, scene: &Scene, locals: &Locals, text: &str) -> Opti
     }
 }
 
-/// The first line of a table that does not hold of its expression between these two parts.
-fn first_wrong(
+/// Ends the test at the first line of a table that does not hold of its expression between these two parts.
+fn table_holds(
+    rt: &impl Abort,
     alloc: Global,
     scene: &Scene,
     locals: &Locals,
-    table: &'static str,
-    before: &str,
-    after: &str,
-) -> Result<Option<&'static str>, Fail> {
+    table: &str,
+    (before, after): (&str, &str),
+) -> Result<(), Fail> {
     for line in table.lines() {
         if let Some((words, outcome)) = line.split_once(" -> ") {
             let text = format!(in alloc; "{before}{words}{after}")?;
-            let expected = expected_of(outcome);
-            if expected.is_none() || outcome_of(alloc, scene, locals, text.as_str()) != expected {
-                return Ok(Some(line));
-            }
+            let is_so = comes_to(alloc, scene, locals, text.as_str(), outcome);
+            holds(rt, is_so, line);
         }
     }
-    Ok(None)
+    Ok(())
+}
+
+/// Whether the expression of a text comes to what a line says.
+fn comes_to(alloc: Global, scene: &Scene, locals: &Locals, text: &str, outcome: &str) -> bool {
+    let expected = expected_of(outcome);
+    expected.is_some() && outcome_of(alloc, scene, locals, text) == expected
 }
 
 fn probe_and_process() -> Option<(Probe, Process)> {
@@ -544,19 +566,15 @@ fn expressions_come_to_what_the_tables_say(rt: HostRuntime) -> Result<(), Fail> 
         process: &process,
         firing: &firing,
     };
-    let locals = Locals::new(rt.alloc(), 65_536)?;
-    let traced = first_wrong(
-        rt.alloc(),
-        &scene,
-        &locals,
-        EXPRESSIONS,
-        "BEGIN{trace(",
-        ")}",
-    )?;
-    assert_eq!(rt; traced, None);
-    let predicates = first_wrong(rt.alloc(), &scene, &locals, PREDICATES, "BEGIN/", "/{}")?;
-    assert_eq!(rt; predicates, None);
-    Ok(())
+    tables_hold(&rt, rt.alloc(), &scene)
+}
+
+/// Checks both tables, where there is no variable of a thread.
+fn tables_hold(rt: &impl Abort, alloc: Global, scene: &Scene) -> Result<(), Fail> {
+    let locals = Locals::new(alloc, 65_536)?;
+    let traced = ("BEGIN{trace(", ")}");
+    table_holds(rt, alloc, scene, &locals, EXPRESSIONS, traced)?;
+    table_holds(rt, alloc, scene, &locals, PREDICATES, ("BEGIN/", "/{}"))
 }
 
 #[test]

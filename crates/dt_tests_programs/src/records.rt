@@ -12,6 +12,8 @@ use dt_record::{
 };
 use dt_speculation::Specs;
 use std::alloc::Global;
+use std::fmt;
+use std::process::Abort;
 use std::test::Fail;
 
 /// In each line a clause and what it leaves of the firing: its record in hexadecimal digits, `-` for none; then `=` and each
@@ -60,13 +62,24 @@ fn words_of(alloc: Global, left: &Taken) -> Result<String, Fail> {
     };
     push_given(alloc, &mut words, left.values.as_slice())?;
     if let Some(id) = left.spec {
-        words.push_str(&format!(in alloc; " spec {id}")?)?;
+        push_named(alloc, &mut words, "spec", id)?;
     }
     push_ends(alloc, &mut words, left.ends.as_slice())?;
     if let Some(status) = left.exit {
-        words.push_str(&format!(in alloc; " exit {status}")?)?;
+        push_named(alloc, &mut words, "exit", status)?;
     }
     Ok(words)
+}
+
+/// Adds a number and the word of the table that stands before it.
+fn push_named(
+    alloc: Global,
+    words: &mut String,
+    name: &str,
+    number: impl fmt::Display + Drop,
+) -> Result<(), Fail> {
+    words.push_str(&format!(in alloc; " {name} {number}")?)?;
+    Ok(())
 }
 
 /// Adds the speculations that are ended, in the words of the table.
@@ -103,29 +116,35 @@ fn parsed(alloc: Global, text: &str) -> Result<Program, Fail> {
     Ok(Program::parse(alloc, text.as_bytes())?)
 }
 
-/// What the clause of a text leaves.
-fn told(alloc: Global, text: &str, scene: &Scene) -> Result<String, Fail> {
-    let program = parsed(alloc, text)?;
+/// A word of the table.
+fn word(alloc: Global, word: &str) -> Result<String, Fail> {
+    Ok(String::from_str(alloc, word)?)
+}
+
+/// What a clause leaves.
+fn told(alloc: Global, clause: &Clause, scene: &Scene) -> Result<String, Fail> {
     let mut locals = Locals::new(alloc, 64)?;
     let mut specs = Specs::new(alloc, 1, 64, 1)?;
-    let clause = program.clauses.first().ok_or("no clause")?;
     match taken(5, clause, scene, &mut locals, &mut specs) {
         Ok(Some(left)) => words_of(alloc, &left),
-        Ok(None) => Ok(String::from_str(alloc, "passed")?),
-        Err(_) => Ok(String::from_str(alloc, "fault")?),
+        Ok(None) => word(alloc, "passed"),
+        Err(_) => word(alloc, "fault"),
     }
 }
 
 /// What it leaves in place of what the clauses before it left.
-fn told_again(alloc: Global, text: &str, scene: &Scene, left: &mut Taken) -> Result<String, Fail> {
-    let program = parsed(alloc, text)?;
+fn told_again(
+    alloc: Global,
+    clause: &Clause,
+    scene: &Scene,
+    left: &mut Taken,
+) -> Result<String, Fail> {
     let mut locals = Locals::new(alloc, 64)?;
     let mut specs = Specs::new(alloc, 1, 64, 1)?;
-    let clause = program.clauses.first().ok_or("no clause")?;
     match left.take(5, clause, scene, &mut locals, &mut specs) {
         Ok(true) => words_of(alloc, left),
-        Ok(false) => Ok(String::from_str(alloc, "passed")?),
-        Err(_) => Ok(String::from_str(alloc, "fault")?),
+        Ok(false) => word(alloc, "passed"),
+        Err(_) => word(alloc, "fault"),
     }
 }
 
@@ -143,12 +162,10 @@ struct BareRoom {
 /// What it leaves by the way of such clauses, in place of what those before it left; nothing where it does more.
 fn told_bare(
     alloc: Global,
-    text: &str,
+    clause: &Clause,
     scene: &Scene,
     room: &mut BareRoom,
 ) -> Result<Option<String>, Fail> {
-    let program = parsed(alloc, text)?;
-    let clause = program.clauses.first().ok_or("no clause")?;
     match told_record(alloc, clause, scene, room)? {
         Some(words) => Ok(Some(words)),
         None => told_given(alloc, clause, scene, room),
@@ -170,8 +187,8 @@ fn told_record(
     Ok(Some(
         match record_only(&mut room.record, 5, clause, scene, &locals) {
             Ok(true) => digits_of(alloc, room.record.as_slice())?,
-            Ok(false) => String::from_str(alloc, "passed")?,
-            Err(_) => String::from_str(alloc, "fault")?,
+            Ok(false) => word(alloc, "passed")?,
+            Err(_) => word(alloc, "fault")?,
         },
     ))
 }
@@ -190,8 +207,8 @@ fn told_given(
     room.giving = room.giving.saturating_add(1);
     Ok(Some(match give_only(&mut room.values, clause, scene, &locals) {
         Ok(true) => given(alloc, room.values.as_slice())?,
-        Ok(false) => String::from_str(alloc, "passed")?,
-        Err(_) => String::from_str(alloc, "fault")?,
+        Ok(false) => word(alloc, "passed")?,
+        Err(_) => word(alloc, "fault")?,
     }))
 }
 
@@ -205,12 +222,10 @@ fn given(alloc: Global, values: &[Value]) -> Result<String, Fail> {
 /// What a clause leaves that traces a variable and does nothing else, whatever was left before; nothing where it does more.
 fn told_traced(
     alloc: Global,
-    text: &str,
+    clause: &Clause,
     scene: &Scene,
     room: &mut BareRoom,
 ) -> Result<Option<String>, Fail> {
-    let program = parsed(alloc, text)?;
-    let clause = program.clauses.first().ok_or("no clause")?;
     let Some(variable) = traced_variable(clause) else {
         return Ok(None);
     };
@@ -218,59 +233,95 @@ fn told_traced(
     Ok(Some(digits_of(alloc, &traced_record(5, variable, scene))?))
 }
 
-/// Whether it was told nothing, or what was wanted.
-fn is_wanted(told: Option<String>, wanted: &str) -> bool {
-    match told {
-        Some(told) => told.as_str() == wanted,
-        None => true,
+/// Compares what was told of a line's clause by a way.
+fn is_told(rt: &impl Abort, told: &str, wanted: &str, way: &str, line: &str) {
+    assert_eq!(rt; told, wanted, "{way}: {line}");
+}
+
+/// Compares what was told by a way, if anything was.
+fn if_told(rt: &impl Abort, told: Option<String>, wanted: &str, way: &str, line: &str) {
+    if let Some(told) = told {
+        is_told(rt, told.as_str(), wanted, way, line);
     }
 }
 
-/// The first line of the table that does not hold by the way of such clauses.
-fn first_wrong_of_the_bare(
+/// Checks by each way what the clause of a line leaves.
+fn leaves(
+    rt: &impl Abort,
     alloc: Global,
     scene: &Scene,
+    (left, room): (&mut Taken, &mut BareRoom),
+    line: &str,
+) -> Result<(), Fail> {
+    let Some((text, wanted)) = line.split_once(" => ") else {
+        return Ok(());
+    };
+    let program = parsed(alloc, text)?;
+    let clause = program.clauses.first().ok_or("no clause")?;
+    leaves_taken(rt, alloc, (clause, scene), left, (wanted, line))?;
+    leaves_bare(rt, alloc, (clause, scene), room, (wanted, line))
+}
+
+/// Checks what a clause leaves that is taken, alone and in place of what those before it left.
+fn leaves_taken(
+    rt: &impl Abort,
+    alloc: Global,
+    (clause, scene): (&Clause, &Scene),
+    left: &mut Taken,
+    (wanted, line): (&str, &str),
+) -> Result<(), Fail> {
+    let alone = told(alloc, clause, scene)?;
+    is_told(rt, alone.as_str(), wanted, "alone", line);
+    let again = told_again(alloc, clause, scene, left)?;
+    is_told(rt, again.as_str(), wanted, "after others", line);
+    Ok(())
+}
+
+/// Checks what it leaves by the ways of clauses that do nothing but record or give, where it has one.
+fn leaves_bare(
+    rt: &impl Abort,
+    alloc: Global,
+    (clause, scene): (&Clause, &Scene),
     room: &mut BareRoom,
-) -> Result<Option<&'static str>, Fail> {
-    for line in CLAUSES.lines() {
-        if let Some((text, wanted)) = line.split_once(" => ") {
-            if !is_wanted(told_bare(alloc, text, scene, room)?, wanted) {
-                return Ok(Some(line));
-            }
-            if !is_wanted(told_traced(alloc, text, scene, room)?, wanted) {
-                return Ok(Some(line));
-            }
-        }
-    }
-    Ok(None)
+    (wanted, line): (&str, &str),
+) -> Result<(), Fail> {
+    let bare = told_bare(alloc, clause, scene, room)?;
+    if_told(rt, bare, wanted, "bare", line);
+    let traced = told_traced(alloc, clause, scene, room)?;
+    if_told(rt, traced, wanted, "traced", line);
+    Ok(())
 }
 
-/// The first line of the table that does not hold.
-fn first_wrong(alloc: Global, scene: &Scene) -> Result<Option<&'static str>, Fail> {
+/// Checks what the table says of each clause, and gives the room that those took that do nothing but record or give.
+fn table_holds(rt: &impl Abort, alloc: Global, scene: &Scene) -> Result<BareRoom, Fail> {
     let mut left = Taken::new();
+    let mut room = BareRoom {
+        record: ArrayVec::new(),
+        values: ArrayVec::new(),
+        recording: 0,
+        giving: 0,
+        tracing: 0,
+    };
     for line in CLAUSES.lines() {
-        if let Some((text, wanted)) = line.split_once(" => ") {
-            if told(alloc, text, scene)?.as_str() != wanted {
-                return Ok(Some(line));
-            }
-            if told_again(alloc, text, scene, &mut left)?.as_str() != wanted {
-                return Ok(Some(line));
-            }
-        }
+        leaves(rt, alloc, scene, (&mut left, &mut room), line)?;
     }
-    Ok(None)
+    Ok(room)
 }
 
-#[test]
-fn leaves_what_the_table_says(rt: HostRuntime) -> Result<(), Fail> {
-    let tuple = ProbeTuple::parse(b"syscall::read:entry").ok_or("no probe")?;
-    let probe = Probe::new(3, tuple);
+/// The probe and the process of the firing.
+fn probe_and_process() -> Option<(Probe, Process)> {
+    let tuple = ProbeTuple::parse(b"syscall::read:entry")?;
     let process = Process {
         pid: 100,
         uid: 501,
-        execname: ShortText::new(b"sh").ok_or("no name")?,
+        execname: ShortText::new(b"sh")?,
     };
-    let firing = Firing {
+    Some((Probe::new(3, tuple), process))
+}
+
+/// The firing that each clause sees.
+fn firing() -> Firing {
+    Firing {
         cpu: 0,
         place: 0,
         probe: 3,
@@ -281,25 +332,20 @@ fn leaves_what_the_table_says(rt: HostRuntime) -> Result<(), Fail> {
         args: [7, 0, 0, 0, 0, 0, 0, 0, 0, 0],
         kstack: [17, 0, 0, 0, 0, 0, 0, 0],
         ustack: [u64::MAX, 0, 0, 0, 0, 0, 0, 0],
-    };
+    }
+}
+
+#[test]
+fn leaves_what_the_table_says(rt: HostRuntime) -> Result<(), Fail> {
+    let (probe, process) = probe_and_process().ok_or("no probe")?;
+    let firing = firing();
     let scene = Scene {
         epid: 5,
         probe: &probe,
         process: &process,
         firing: &firing,
     };
-    assert_eq!(rt; first_wrong(rt.alloc(), &scene)?, None);
-    let mut room = BareRoom {
-        record: ArrayVec::new(),
-        values: ArrayVec::new(),
-        recording: 0,
-        giving: 0,
-        tracing: 0,
-    };
-    assert_eq!(rt;
-        first_wrong_of_the_bare(rt.alloc(), &scene, &mut room)?,
-        None
-    );
+    let room = table_holds(&rt, rt.alloc(), &scene)?;
     // so many lines of the table have such a way
     assert_eq!(rt; (room.recording, room.giving, room.tracing), (16, 3, 4));
     Ok(())
@@ -318,18 +364,31 @@ fn records(alloc: Global, layout: Layout, bytes: &[u8]) -> Result<String, Fail> 
     Ok(text)
 }
 
+/// A record, of EPID 1, of two values.
+const RECORD: &[u8] = &[
+    0, 0, 0, 1, 128, 0, 0, 0, 0, 0, 0, 0, 128, 0, 0, 0, 0, 0, 0, 0,
+];
+
 #[test]
 fn reads_records_back(rt: HostRuntime) -> Result<(), Fail> {
     let alloc = rt.alloc();
     let program = parsed(alloc, "read:entry{trace(arg0);trace(arg0 / arg1)}")?;
-    let bytes = [
-        0, 0, 0, 1, 128, 0, 0, 0, 0, 0, 0, 0, 128, 0, 0, 0, 0, 0, 0, 0,
-    ];
-    for (length, wanted) in [(20, " 1:2"), (19, "none"), (0, "")] {
-        let layout = Layout::of(program.clauses.first().ok_or("no clause")?);
-        let found = records(alloc, layout, bytes.get(..length).ok_or("too long")?)?;
-        assert!(rt; found.as_str() == wanted, "{length}");
-    }
+    let clause = program.clauses.first().ok_or("no clause")?;
+    is_read_back(&rt, alloc, clause, RECORD, " 1:2")?;
+    is_read_back(&rt, alloc, clause, &RECORD[..19], "none")?;
+    is_read_back(&rt, alloc, clause, &[], "")
+}
+
+/// Compares what is read back of these bytes, which are records of a clause.
+fn is_read_back(
+    rt: &impl Abort,
+    alloc: Global,
+    clause: &Clause,
+    bytes: &[u8],
+    wanted: &str,
+) -> Result<(), Fail> {
+    let found = records(alloc, Layout::of(clause), bytes)?;
+    assert!(rt; found.as_str() == wanted, "{} bytes", bytes.len());
     Ok(())
 }
 
@@ -337,17 +396,14 @@ fn reads_records_back(rt: HostRuntime) -> Result<(), Fail> {
 fn reads_a_megabyte_of_records_back(rt: HostRuntime) -> Result<(), Fail> {
     let alloc = rt.alloc();
     let program = parsed(alloc, "read:entry{trace(arg0);trace(epid)}")?;
-    let clause = program.clauses.first().ok_or("no clause")?;
-    let record: &[u8] = &[
-        0, 0, 0, 1, 128, 0, 0, 0, 0, 0, 0, 0, 128, 0, 0, 0, 0, 0, 0, 0,
-    ];
-    // 1,048,560 bytes: as many of these records as the largest buffer holds
-    let bytes = record.repeat(alloc, 52_428)?;
+    are_read_back(&rt, alloc, program.clauses.first().ok_or("no clause")?)
+}
+
+/// Reads 1,048,560 bytes back, as many of a clause's records as the largest buffer holds, and one byte less.
+fn are_read_back(rt: &impl Abort, alloc: Global, clause: &Clause) -> Result<(), Fail> {
+    let bytes = RECORD.repeat(alloc, 52_428)?;
     let all = " 1:2".repeat(alloc, 52_428)?;
-    let found = records(alloc, Layout::of(clause), &bytes)?;
-    assert!(rt; found == all, "all records");
+    is_read_back(rt, alloc, clause, &bytes, all.as_str())?;
     let (_, cut) = bytes.split_last().ok_or("no bytes")?;
-    let found = records(alloc, Layout::of(clause), cut)?;
-    assert!(rt; found.as_str() == "none", "a byte too few");
-    Ok(())
+    is_read_back(rt, alloc, clause, cut, "none")
 }
