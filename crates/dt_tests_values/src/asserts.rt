@@ -6,7 +6,7 @@ pub fn holds(rt: &impl Abort, is_so: bool, line: &str) {
     assert!(rt; is_so, "{line}");
 }
 
-/// Ends the test where what a word of a line says doesn't hold.
+/// Ends the test where what is said of a word or a part of a line doesn't hold.
 pub fn word_holds(rt: &impl Abort, is_so: bool, word: &str, line: &str) {
     assert!(rt; is_so, "{word} in {line}");
 }

@@ -1,5 +1,5 @@
 //! The policies, as a table of puts with what the buffer then shows.
-use crate::asserts::{holds, same, word_holds};
+use crate::asserts::{same, word_holds};
 use dt_buffer::{DROPS_LIMIT, Policy, Principal, Put, SIZE_MAX};
 use std::alloc::Global;
 use std::process::Abort;
@@ -109,7 +109,8 @@ fn has(
     asked: &str,
     bytes: &[u8],
 ) -> Result<(), Fail> {
-    holds(rt, content(alloc, buffer)?.as_slice() == bytes, asked);
+    let is_so = content(alloc, buffer)?.as_slice() == bytes;
+    word_holds(rt, is_so, "the content", asked);
     Ok(())
 }
 
@@ -126,7 +127,7 @@ fn lends(
         Some(found) => is_ring && found == *kept,
         None => !is_ring,
     };
-    holds(rt, is_so, asked);
+    word_holds(rt, is_so, "what is lent", asked);
     Ok(())
 }
 
