@@ -12,7 +12,7 @@ use crate::offered::Offered;
 use dt_chain::{ChainReader, Front, SEATS, Seat, SeatMask};
 use dt_consumer::Scratch;
 use dt_facts::{Both, Facts};
-use dt_machine::Machine;
+use dt_machine::{Firing, Machine};
 use dt_seat::{Follower, Held, HubSite};
 use std::alloc::{AllocError, Global};
 use std::marker::{Brand, Model};
@@ -34,8 +34,8 @@ pub struct CpuSeat<J: HubSite> {
     pub(crate) held: Vec<Held>,
     /// Where what clauses leave is made.
     pub(crate) scratch: Scratch,
-    /// The greatest of what was read ahead of the script. Nobody asks for it.
-    pub(crate) ahead: i64,
+    /// What was read ahead of the script, as one number. Nobody asks for it.
+    pub(crate) ahead: u64,
 }
 
 impl<J: HubSite> Model for CpuSeat<J> {
@@ -57,31 +57,25 @@ pub(crate) fn note_down<J: HubSite>(facts: &Facts, log: &mut Both, followers: &V
     facts.go_on::<Brand, Vec<Follower<J>>>(log, followers);
 }
 
-/// So many firings of a script are read ahead at once.
-const AHEAD: u32 = 16;
+/// A firing is read so many firings before it is made.
+const AHEAD: u32 = 2;
 
-/// Reads the probes and the first arguments of the firings that a processor makes next, at each [`AHEAD`]th of its places: the greatest of them, and at other places what it was
-/// before. Nothing is made of it: but a script is read once, from one end to the other, and the processor would wait for the lines of each firing. Here many are asked for at once,
-/// and come in the time of one. What is asked of each firing, up to its first argument, lies on one line or on two.
+/// Reads a number on each cache line of the firing that a processor makes [`AHEAD`] firings later, and answers what was read so far, as one number. Nothing is made of it: but a
+/// script is read once, from one end to the other, and where each of its lines is read in order the machine brings the next by itself. An offer reads only some of a firing's lines,
+/// and would wait for each.
 #[inline(always)]
-pub(crate) fn read_ahead(machine: &Machine, cpu: u32, place: u32, before: i64) -> i64 {
-    if place % AHEAD == 0 {
-        greatest_ahead(machine, cpu, place)
-    } else {
-        before
+pub(crate) fn read_ahead(machine: &Machine, cpu: u32, place: u32, before: u64) -> u64 {
+    match machine.firing(cpu, place.saturating_add(AHEAD)) {
+        Some(later) => before ^ on_each_line(later),
+        None => before,
     }
 }
 
-/// The greatest probe or first argument of the next [`AHEAD`] firings of a script, from a place on.
-#[inline(never)]
-fn greatest_ahead(machine: &Machine, cpu: u32, place: u32) -> i64 {
-    let mut greatest = 0;
-    for next in 0..AHEAD {
-        if let Some(firing) = machine.firing(cpu, place.saturating_add(next)) {
-            greatest = firing.args[0].max(i64::from(firing.probe)).max(greatest);
-        }
-    }
-    greatest
+/// Four numbers of a firing, each 64 bytes after the one before, as one number. With those of the firing before they lie on each line of 64 bytes.
+#[inline(always)]
+fn on_each_line(firing: &Firing) -> u64 {
+    let arguments = firing.args[0].cast_unsigned() ^ firing.args[8].cast_unsigned();
+    arguments ^ firing.kstack[6] ^ firing.ustack[6]
 }
 
 impl<J: HubSite> CpuSeat<J> {
