@@ -232,7 +232,9 @@ def never_reads(_folder):
         yield "and waits for nobody", time.monotonic() - before < 10, True
         yield "a processor fires beside it", service.says(b"step 0 1"), b"fired 0 1\n"
         flood.close()
+        yield "another is served once it is gone", other.ask(STATUS), STATUS_REPLY
         other.close()
+        yield "a write to a client that is gone doesn't end the service", service.end().told, (b"", b"", 0)
 
 
 def spent_meanwhile(service):

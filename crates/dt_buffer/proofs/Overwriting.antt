@@ -144,6 +144,21 @@ pub lengths_nil : (attempt : List ℕ) → length attempt ≡ 0 → lengths_of (
 lengths_nil [] none = refl
 lengths_nil (byte ∷ bytes) none = absurd (omega arith)
 
+-- where records are held that have bytes, and all are of one length, this isn't 0
+one_length : (records : List (List ℕ)) (n : ℕ) → AreAllOf (lengths_of records) n → 0 < length (lengths_of records) → 0 < n
+one_length [] n same some = absurd (omega arith)
+one_length ([] ∷ records) n same some = one_length records n same some
+one_length ((byte ∷ bytes) ∷ records) n same some =
+    let first : length (byte ∷ bytes) ≡ n = same 0 (length (byte ∷ bytes)) (omega arith) in
+    omega arith
+
+pub one_length_held : (size : ℕ) (attempts : List (List ℕ)) (store : RingStore) (n : ℕ) → RingIsAt size attempts store
+    → AreAllOf store.lengths.items n → 0 < length store.lengths.items → 0 < n
+one_length_held size attempts store n s same some =
+    let P : List ℕ → Type 0 = λ xs. AreAllOf xs n in
+    let Q : List ℕ → Type 0 = λ xs. 0 < length xs in
+    one_length (drop s.shows.passed (fitting size attempts)) n (subst P s.lengths same) (subst Q s.lengths some)
+
 split_first : (xs : List ℕ) (x : ℕ) → Some x ≡ slice_get xs 0 → xs ≡ x ∷ drop 1 xs
 split_first [] x e = cc
 split_first (y ∷ ys) x e = cc

@@ -44,7 +44,48 @@ impl RingStore {
     }
 
     /// Takes a record and says so, or counts a drop: it is longer than the whole store.
+    ///
+    /// Most records come where all that are held are as long as they: those are taken where the call stands, and all others apart.
+    #[inline(always)]
     pub(crate) fn put(&mut self, bytes: &[u8]) -> bool
+        requires { self.old.drops < DROPS_LIMIT }
+        ensures kept { IsTrue result ↔ (length bytes.now ≤ self.old.bytes.capacity) }
+        ensures drops { self.new.drops ≡ (if result then self.old.drops else self.old.drops + 1) }
+        ensures shows { (size : ℕ) (attempts : List (List ℕ)) → RingIsAt size attempts self.old
+            → RingIsAt size (attempts ++ bytes.now ∷ []) self.new }
+    {
+        if self.is_all_of(bytes.len()) && bytes.len() <= self.bytes.capacity() {
+            self.put_alike(bytes);
+            return true;
+        }
+        self.put_other(bytes)
+    }
+
+    /// Takes a record that is as long as all that are held. Where there is no room for it they take turns: the oldest goes, and the lengths are those that they
+    /// were, so that none is read or written.
+    #[inline(always)]
+    fn put_alike(&mut self, bytes: &[u8])
+        requires known { self.old.each ≡ Some (length bytes.now) }
+        requires some { 0 < length self.old.lengths.items }
+        requires short { length bytes.now ≤ self.old.bytes.capacity }
+        ensures drops { self.new.drops ≡ self.old.drops }
+        ensures shows { (size : ℕ) (attempts : List (List ℕ)) → RingIsAt size attempts self.old
+            → RingIsAt size (attempts ++ bytes.now ∷ []) self.new }
+    {
+        if self.bytes.capacity() - self.bytes.len() < bytes.len() {
+            let left = self.bytes.len().saturating_sub(bytes.len());
+            self.bytes.truncate_front(left);
+            self.bytes.fill_from_slice(bytes);
+            self.ahead.go_on(&self.bytes, bytes.len());
+        } else {
+            self.bytes.fill_from_slice(bytes);
+            self.note_alike(bytes.len() as u32);
+        }
+    }
+
+    /// Takes a record of any length, or counts a drop.
+    #[inline(never)]
+    fn put_other(&mut self, bytes: &[u8]) -> bool
         requires { self.old.drops < DROPS_LIMIT }
         ensures kept { IsTrue result ↔ (length bytes.now ≤ self.old.bytes.capacity) }
         ensures drops { self.new.drops ≡ (if result then self.old.drops else self.old.drops + 1) }
@@ -56,14 +97,6 @@ impl RingStore {
             self.drops += 1;
             return false;
         }
-        // Records of one length take turns: the oldest goes, and the lengths are those that they were, so that none is read or written.
-        if self.is_full_of(bytes.len()) {
-            let left = self.bytes.len().saturating_sub(bytes.len());
-            self.bytes.truncate_front(left);
-            self.bytes.fill_from_slice(bytes);
-            self.ahead.go_on(&self.bytes, bytes.len());
-            return true;
-        }
         self.make_room(bytes.len());
         // there is room for all of it
         self.bytes.fill_from_slice(bytes);
@@ -74,18 +107,9 @@ impl RingStore {
         true
     }
 
-    /// Whether there are records that have bytes, all of this length, and no room for one more.
-    fn is_full_of(&self, len: usize) -> bool
-        ensures alike { IsTrue result → AreAllOf self.now.lengths.items len }
-        ensures some { IsTrue result → 0 < length self.now.lengths.items }
-        ensures full { IsTrue result → self.now.bytes.capacity < length self.now.bytes.items + len }
-    {
-        self.bytes.capacity() - self.bytes.len() < len && self.is_all_of(len)
-    }
-
     /// Whether there are records that have bytes, and it is known that all of them are of this length.
     fn is_all_of(&self, len: usize) -> bool
-        ensures alike { IsTrue result → AreAllOf self.now.lengths.items len }
+        ensures known { IsTrue result → self.now.each ≡ Some len }
         ensures some { IsTrue result → 0 < length self.now.lengths.items }
     {
         match self.each {

@@ -19,7 +19,7 @@ use dt_lang::Clause;
 use dt_life::{Context, END, Options, empty_stores, own_firing, own_process, scene_at};
 use dt_locals::Locals;
 use dt_machine::Machine;
-use dt_record::{Taken, give_only, record_only, traced_record};
+use dt_record::{TRACED_SIZE, Taken, give_only, record_only, traced_record};
 use dt_speculation::{SpecPut, Specs, drops_told};
 use std::alloc::{AllocError, Global};
 
@@ -162,7 +162,7 @@ impl Processors {
             → result ≡ first_exit (takings_by false s.options steps (form_of_context context.now) s.clauses list.now.ecbs.items) }
     {
         if let Some(traced) = list.traced {
-            self.take_traced(traced, context);
+            self.take_traced(&mut scratch.traced, traced, context);
             return None;
         }
         let enabled = Enabled {
@@ -328,9 +328,9 @@ impl Processors {
         None
     }
 
-    /// Takes an ECB whose clause is one `trace` of a variable that names a number, without a predicate.
+    /// Takes an ECB whose clause is one `trace` of a variable that names a number, without a predicate. Its record is made in the room that is lent.
     #[inline(always)]
-    fn take_traced(&mut self, traced: TracedEcb, context: &Context)
+    fn take_traced(&mut self, record: &mut [u8; TRACED_SIZE], traced: TracedEcb, context: &Context)
         requires there { context.now.firing.now.cpu < vec_len self.old.all }
         requires counts { All (AtMost (DROPS_LIMIT - COMES_BY_ONE)) self.old.all.items }
         ensures len { vec_len self.new.all ≡ vec_len self.old.all }
@@ -348,12 +348,21 @@ impl Processors {
             → exit_of (taking_by false s.options steps (form_of_context context.now) s.clauses ecb) ≡ None }
     {
         let scene = scene_at(context, traced.epid);
-        self.trace_one(traced, &scene, context.firing.cpu as usize);
+        self.trace_one(record, traced, &scene, context.firing.cpu as usize);
     }
 
     /// Puts the record of an ECB that traces a variable into the processor's buffer.
+    ///
+    /// The record is made in room that is lent, and not here: of its own bytes the compiler would know that they lie in no buffer, and would copy them by a call whose first
+    /// read waits until both writes before it are done.
     #[inline(always)]
-    fn trace_one(&mut self, traced: TracedEcb, scene: &Scene, cpu: usize)
+    fn trace_one(
+        &mut self,
+        record: &mut [u8; TRACED_SIZE],
+        traced: TracedEcb,
+        scene: &Scene,
+        cpu: usize,
+    )
         requires there { cpu < vec_len self.old.all }
         requires counts { All (AtMost (DROPS_LIMIT - 1)) self.old.all.items }
         ensures len { vec_len self.new.all ≡ vec_len self.old.all }
@@ -368,8 +377,8 @@ impl Processors {
             (changed_at tallies cpu (with_outcome false (taking traced.epid (scene_of scene.now) past clause).outcome
             (tallies cpu))) self.new.all.items }
     {
-        let record = traced_record(traced.epid, traced.variable, scene);
-        let _put = self.all[cpu].buffer.put(&record, false);
+        *record = traced_record(traced.epid, traced.variable, scene);
+        let _put = self.all[cpu].buffer.put(record, false);
     }
 
     /// Takes one ECB, whatever its clause does: what it assigns and draws is done, its record goes into the

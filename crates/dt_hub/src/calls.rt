@@ -30,6 +30,9 @@ impl<J: HubSite> Hub<J> {
 
     /// A processor makes the next firing of its script: it finds which seats are named, and offers the firing to these and to no others, one after the other, each under
     /// its lock. Where another has the lock of a seat, those whose locks nobody has come first, and then it waits. What it came to at each seat, the token tells. It takes no memory.
+    ///
+    /// It is inlined: who makes many firings has one loop of them.
+    #[inline(always)]
     pub fn fire<R: Wait, G: Gate>(&self, rt: &R, cpu_seat: &mut CpuSeat<J>, gate: &G) -> Fired
         ensures { ComesOfCall J.contents result cpu_seat.old cpu_seat.new }
     {

@@ -60,9 +60,9 @@ pub(crate) fn note_down<J: HubSite>(facts: &Facts, log: &mut Both, followers: &V
 /// A firing is read so many firings before it is made.
 const AHEAD: u32 = 2;
 
-/// Reads a number on each cache line of the firing that a processor makes [`AHEAD`] firings later, and answers what was read so far, as one number. Nothing is made of it: but a
-/// script is read once, from one end to the other, and where each of its lines is read in order the machine brings the next by itself. An offer reads only some of a firing's lines,
-/// and would wait for each.
+/// Reads four numbers of the firing that a processor makes [`AHEAD`] firings later ([`on_each_line`]), and answers what was read so far, as one number. Nothing is made of it: but a
+/// script is read once, from one end to the other, and where each of its cache lines is read in order the machine brings the next by itself. An offer reads only some of a firing's
+/// cache lines, and would wait for each.
 #[inline(always)]
 pub(crate) fn read_ahead(machine: &Machine, cpu: u32, place: u32, before: u64) -> u64 {
     match machine.firing(cpu, place.saturating_add(AHEAD)) {

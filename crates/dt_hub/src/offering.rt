@@ -30,16 +30,16 @@ use std::sync::{Mutex, MutexGuard, Wait};
 /// How often a lock is asked for before a thread sleeps for it.
 const TRIES: u32 = 64;
 
-/// Takes a lock that another has. To offer a firing takes less time than to wake a thread that sleeps: so the lock is asked for some times before that, first after ever longer
-/// pauses, and then whenever other threads were let run.
+/// Takes a lock that another had. To offer a firing takes less time than to wake a thread that sleeps: so the lock is asked for some times before that, at once, then after ever
+/// longer pauses, and then whenever other threads were let run.
 #[cold]
 fn wait_for<'l, R: Wait, T>(rt: &R, lock: &'l Mutex<T>) -> MutexGuard<'l, T> {
     let backoff = Backoff::new();
     'tries: for _ in 0..TRIES {
-        backoff.snooze();
         if let Some(guard) = lock.try_lock() {
             return guard;
         }
+        backoff.snooze();
     }
     lock.lock(rt)
 }

@@ -98,7 +98,7 @@ impl<J: HubSite> Hub<J> {
         }
         let opened = match self.open_unlocked(alloc, account) {
             Some(opened) => Some(opened),
-            // only who is sure that no seat is free is told so
+            // only who found each seat taken, under its lock, is told that none is free
             None => self.open_in_turn(rt, alloc, account),
         };
         match opened {

@@ -25,7 +25,7 @@ impl Trail {
     ghost use Rattle.dt_trail.specs.Known.{known_row, AreNew};
 
     /// A row of empty cells for an account, with its owner and its notes, which are numbered from 0: the session's, and then those of
-    /// the processors. The empty row has to be lawful for the account. It takes 16 bytes a cell, and some for each note.
+    /// the processors. The empty row has to be lawful for the account. It takes 16 bytes a cell, some for each note, and some for what all of them share.
     ///
     /// `Err`: there was no memory.
     pub fn new<K: Drop, L: Law<K>>(

@@ -24,8 +24,8 @@ use std::sync::Arc;
 /// Contracts see it as a `Known` of `specs/Known.antt`: which row it is and whose, the row's items, how many cells the row has,
 /// and how often it was widened.
 pub struct TrailOwner<K, L: Law<K>> {
-    // An append into the block of the item before reads what lies here and cells, and nothing of what the handles share. The count is what each writes, and comes last:
-    // after it lies what else an offer to a session writes.
+    // An append into the block of the item before reads what lies here and cells, and nothing of what the handles share. The count is what each writes, and comes last
+    // of what has a size: after it lies what else an offer to a session writes.
     pub(crate) place: OwnerPlace<K, L>,
     pub(crate) count: u64,
     pub(crate) seat: RowSeat<K>,

@@ -22,9 +22,9 @@ returns-clause-recorded c = λ clause past tallies known last h.
       specdrops = was.specdrops;
     } in
     let comes = traced_leaves c.args.traced.epid (scene_of c.args.scene.now) past clause c.args.traced.variable known
-    ∙ ap (λ bytes. leaves (bare_record bytes)) (sym c.traced_record-record.ensures) in
+    ∙ ap (λ bytes. leaves (bare_record bytes)) (sym c.traced_record.ensures) in
     subst (λ o. AreTallied (changed_at tallies cpu (with_outcome false o tally)) (slice_set own.all.items cpu now)) (sym comes)
-    (tallied_changed tallies cpu (with_records false (c.traced_record-record.result ∷ []) tally) own.all.items was now
+    (tallied_changed tallies cpu (with_records false (c.traced_record.result ∷ []) tally) own.all.items was now
     (omega (arith, c.requires.there)) c.index_mut.ensures.value
     (λ k. record {
       stands = c.put-put.ensures.stands tally.came k.stands last;

@@ -1,7 +1,7 @@
 -- A record is kept after room was made for it, or it is too long.
 use Rattle.std.proofs.Common.{refl, arith, rules, ◌∙◌}
-use Rattle.dt_buffer.proofs.Overwriting.{ring_dropped, ring_put_some, ring_put_empty, ring_turned}
-use Rattle.dt_buffer.proofs.ring.RingStore.put.Goals as goal
+use Rattle.dt_buffer.proofs.Overwriting.{ring_dropped, ring_put_some, ring_put_empty}
+use Rattle.dt_buffer.proofs.ring.RingStore.put_other.Goals as goal
 
 pub returns-then-capacity-bytes-clause-shows : goal.returns-then-capacity-bytes-clause-shows
 returns-then-capacity-bytes-clause-shows c = λ size attempts s.
@@ -12,19 +12,11 @@ pub returns-then-not-is_empty-clause-shows : goal.returns-then-not-is_empty-clau
 returns-then-not-is_empty-clause-shows c = λ size attempts s.
     ring_put_some size attempts c.args.bytes.now c.args.self.now c.make_room.new.self _ s
     c.make_room.ensures.makes_room c.make_room.ensures.room c.make_room.ensures.capacity c.make_room.ensures.places
-    (c.note_length.ensures.drops ∙ c.make_room.ensures.drops) _ c.fill_from_slice-2.ensures.count
-    (c.note_length.ensures.bytes ∙ c.fill_from_slice-2.ensures.items) (search rules) c.note_length.ensures.lengths
+    (c.note_length.ensures.drops ∙ c.make_room.ensures.drops) _ c.fill_from_slice.ensures.count
+    (c.note_length.ensures.bytes ∙ c.fill_from_slice.ensures.items) (search rules) c.note_length.ensures.lengths
 
 pub returns-else-not-is_empty-clause-shows : goal.returns-else-not-is_empty-clause-shows
 returns-else-not-is_empty-clause-shows c = λ size attempts s.
     ring_put_empty size attempts c.args.bytes.now c.args.self.now c.make_room.new.self _ s
     c.make_room.ensures.makes_room c.make_room.ensures.room c.make_room.ensures.capacity c.make_room.ensures.places
-    c.make_room.ensures.drops _ c.fill_from_slice-2.ensures.count c.fill_from_slice-2.ensures.items (search rules) refl
-
-pub returns-then-is_full_of-clause-shows : goal.returns-then-is_full_of-clause-shows
-returns-then-is_full_of-clause-shows c = λ size attempts s.
-    ring_turned size attempts c.args.bytes.now c.args.self.now _ s c.saturating_sub-left.result c.fill_from_slice.result
-    c.truncate_front.new.self (c.is_full_of.ensures.alike c.if-is_full_of.true) (c.is_full_of.ensures.some c.if-is_full_of.true)
-    (omega arith) (omega (arith, s.room)) (c.is_full_of.ensures.full c.if-is_full_of.true)
-    (omega (arith, c.saturating_sub-left.ensures)) c.truncate_front.ensures c.fill_from_slice.ensures.count
-    c.fill_from_slice.ensures.items refl refl
+    c.make_room.ensures.drops _ c.fill_from_slice.ensures.count c.fill_from_slice.ensures.items (search rules) refl
