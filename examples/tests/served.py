@@ -436,6 +436,20 @@ def closed_streams(_folder):
         yield "a client without an output", (ran.stderr, ran.returncode), (b"fault\n", 1)
 
 
+def unreadable_inputs(folder):
+    """A service whose standard input is closed or set not to block: it says that it is ready, and ends with a fault."""
+    path, sockets = pathlib.Path(folder) / "machine.json", pathlib.Path(folder) / "unread"
+    path.write_text(machine([[]]), encoding="utf-8")
+    sockets.mkdir()
+    empty, other = os.pipe()
+    os.set_blocking(empty, False)
+    for input_is, more in [("closed", {"preexec_fn": lambda: os.close(0)}), ("set not to block", {"stdin": empty})]:
+        ran = subprocess.run([PROGRAM, "serve", path, sockets], stdout=subprocess.PIPE, stderr=subprocess.PIPE, check=False, timeout=PATIENCE, **more)
+        yield f"an input that is {input_is}", (ran.stdout, ran.stderr, ran.returncode, os.listdir(sockets)), (b"ready\n", b"fault\n", 1, [])
+    os.close(empty)
+    os.close(other)
+
+
 def deep_lines(_folder):
     """The deepest line, where the system's own stacks would be too small to read it."""
     with serving(machine([[]]), preexec_fn=lambda: resource.setrlimit(resource.RLIMIT_STACK, (SMALL_STACK, SMALL_STACK))) as service:
@@ -458,4 +472,4 @@ def others_paths(_folder):
 
 signal.signal(signal.SIGPIPE, signal.SIG_IGN)
 judge(rows, all_seats, comes_and_goes, gives_back, gives_back_beside, never_reads, stalls, cut_anywhere, session_ends, commands, long_steps, no_threads, no_descriptors, refused,
-      closed_streams, deep_lines, others_paths)
+      closed_streams, unreadable_inputs, deep_lines, others_paths)
