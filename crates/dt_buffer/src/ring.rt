@@ -34,8 +34,10 @@ impl RingStore {
         ensures stands { IfOk result (RingIsAt size []) }
         ensures drops { IfOk result (λ store. store.drops ≡ 0) }
     {
+        let mut bytes = HeapCircularBuffer::with_capacity(alloc, size)?;
+        touch(&mut bytes);
         Ok(RingStore {
-            bytes: HeapCircularBuffer::with_capacity(alloc, size)?,
+            bytes,
             lengths: HeapCircularBuffer::with_capacity(alloc, size)?,
             each: None,
             drops: 0,
@@ -173,6 +175,20 @@ impl RingStore {
             self.bytes.truncate_front(left);
         }
     }
+}
+
+/// So many bytes of a ring's room are written at once.
+const TOUCHED: usize = 512;
+
+/// Writes each byte of a ring's room once, and empties the ring: the system gives memory where it is first written, page by page, and firings would wait for that.
+fn touch(bytes: &mut HeapCircularBuffer<u8>)
+    ensures { bytes.new ≡ buffer [] bytes.old.capacity }
+{
+    let zeros = [0; TOUCHED];
+    for _ in 0..bytes.capacity() / TOUCHED + 1 {
+        bytes.fill_from_slice(&zeros);
+    }
+    bytes.clear();
 }
 
 /// The one length of all records that have bytes after one more, if it is known: that one's, where it is the first.
