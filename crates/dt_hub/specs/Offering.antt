@@ -1,23 +1,22 @@
 -- How far a firing was offered.
-use Rattle.std.specs.Prelude.{◌≡◌, ◌+◌, ◌++◌, ◌∷◌, ℕ, Bool, true, false, List, [], Option, Some, None, IfSome, IsSome, length, slice_get}
+use Rattle.std.specs.Prelude.{◌≡◌, ◌+◌, ◌++◌, ◌∷◌, ◌&&◌, ℕ, Bool, true, false, List, [], Some, IfSome, IsSome, length, slice_get}
 use Rattle.dt_chain.specs.Limits.{seat_count}
 use Rattle.dt_chain.specs.Seats.{has, life_at}
 use Rattle.dt_chain.specs.Writes.{Write}
 use Rattle.dt_chain.specs.declared.seat_mask.SeatMask.{SeatMask}
-use Rattle.dt_chain.specs.declared.seat_set.SeatSet.{SeatSet}
 use Rattle.dt_cred.specs.declared.firing.Firing.{Firing}
 use Rattle.dt_facts.specs.declared.fact.Knew.{Knew}
 use Rattle.dt_hub.specs.Firings.{ComesToSeat, KnowsPublicationAt}
+use Rattle.dt_hub.specs.declared.missed_seats.MissedSeats.{MissedSeats}
 use Rattle.dt_hub.specs.Processors.{AreAtSeats, AreTrackedBy, IsAtSeat, counts_at, knew_at_seats}
 use Rattle.dt_machine.specs.Registry.{Contents}
 use Rattle.dt_seat.specs.Keeps.{Followed}
 use Rattle.dt_seat.specs.Tracked.{AreTracked}
 use Rattle.dt_seat.specs.declared.held.Held.{Held}
 
--- whether a seat was missed, as its lock was another's: none was where there is no set
-abbrev pub missed_in : Option SeatSet → ℕ → Bool
-missed_in None seat = false
-missed_in (Some seats) seat = has seats seat
+-- whether a seat was missed, as its lock was another's: where none was, what lies in the set means nothing
+abbrev pub missed_in : MissedSeats → ℕ → Bool
+missed_in missed seat = missed.some && has missed.seats seat
 
 -- A processor, all of whose own firings stood below this one's place at first, has offered this firing to all seats that the mask names but those that are still to come. At
 -- those it has what it had at first. At all others it has what the firing came to, its own firings stand below the next place, it knows of the publication of the life that was named,

@@ -52,9 +52,7 @@ impl<J: HubSite> Hub<J> {
         note_down(&self.facts, &mut cpu_seat.log, &cpu_seat.followers);
         if !cpu_seat.naming.mask().is_empty() {
             // a firing of a script belongs to the machine
-            let Some(context) = self.machine.context(firing) else {
-                unreachable!()
-            };
+            let context = self.machine.context_of(firing);
             self.offer_to_named(
                 rt,
                 &context,
@@ -62,6 +60,7 @@ impl<J: HubSite> Hub<J> {
                 &mut cpu_seat.scratch,
                 &mut cpu_seat.followers,
                 &mut cpu_seat.held,
+                &mut cpu_seat.missed,
                 &mut cpu_seat.reader,
                 gate,
             );

@@ -7,12 +7,13 @@ ghost use Rattle.dt_hub.specs.Names.{log_name};
 ghost use Rattle.dt_hub.specs.Processors.{knew_at_seats, places_in};
 ghost use Rattle.dt_seat.specs.Keeps.{followed_at};
 
+use crate::missed_seats::MissedSeats;
 use crate::naming::Naming;
 use crate::offered::Offered;
 use dt_chain::{ChainReader, Front, SEATS, Seat, SeatMask};
 use dt_consumer::Scratch;
 use dt_facts::{Both, Facts};
-use dt_machine::Machine;
+use dt_machine::{Firing, Machine};
 use dt_seat::{Follower, Held, HubSite};
 use std::alloc::{AllocError, Global};
 use std::marker::{Brand, Model};
@@ -32,6 +33,8 @@ pub struct CpuSeat<J: HubSite> {
     pub(crate) naming: Naming<J>,
     /// What it came to there. What lies at a seat that wasn't named means nothing.
     pub(crate) held: Vec<Held>,
+    /// Which of them it missed at first, as others had their locks. After a firing that named none it means nothing.
+    pub(crate) missed: MissedSeats,
     /// Where what clauses leave is made.
     pub(crate) scratch: Scratch,
     /// What was read ahead of the script, as one number. Nobody asks for it.
@@ -57,32 +60,25 @@ pub(crate) fn note_down<J: HubSite>(facts: &Facts, log: &mut Both, followers: &V
     facts.go_on::<Brand, Vec<Follower<J>>>(log, followers);
 }
 
-/// So many firings are read at once.
-const AHEAD: u32 = 128;
+/// A firing is read so many firings before it is made.
+const AHEAD: u32 = 2;
 
-/// At the first of each [`AHEAD`] places of a script, reads these firings ([`read_next`]), and answers what was read so far, as one number. Nothing is made of it: but a script is
-/// read once, so its cache lines lie near no processor, and a firing that takes locks would wait for each of them. Read one after the other with nothing between, many come in the
-/// time of one.
+/// Reads four numbers of the firing that a processor makes [`AHEAD`] firings later ([`on_each_line`]), and answers what was read so far, as one number. Nothing is made of it: but a
+/// script is read once, from one end to the other, and where each of its cache lines is read in order the machine brings the next by itself. An offer reads only some of a firing's
+/// cache lines, and would wait for each.
 #[inline(always)]
 pub(crate) fn read_ahead(machine: &Machine, cpu: u32, place: u32, before: u64) -> u64 {
-    if place.is_multiple_of(AHEAD) {
-        before ^ read_next(machine, cpu, place)
-    } else {
-        before
+    match machine.firing(cpu, place.saturating_add(AHEAD)) {
+        Some(later) => before ^ on_each_line(later),
+        None => before,
     }
 }
 
-/// Two numbers of each of the firings from a place on, as one number: the probe and the first argument. On their cache lines lies what each offer asks of a firing; those of further
-/// arguments and of stacks are left to the clauses that trace them.
-#[inline(never)]
-fn read_next(machine: &Machine, cpu: u32, place: u32) -> u64 {
-    let mut read = 0;
-    'firings: for later in place..place.saturating_add(AHEAD) {
-        if let Some(firing) = machine.firing(cpu, later) {
-            read ^= u64::from(firing.probe) ^ firing.args[0].cast_unsigned();
-        }
-    }
-    read
+/// Four numbers of a firing, each 64 bytes after the one before, as one number. With those of the firing before they lie on each line of 64 bytes.
+#[inline(always)]
+fn on_each_line(firing: &Firing) -> u64 {
+    let arguments = firing.args[0].cast_unsigned() ^ firing.args[8].cast_unsigned();
+    arguments ^ firing.kstack[6] ^ firing.ustack[6]
 }
 
 impl<J: HubSite> CpuSeat<J> {
@@ -119,6 +115,7 @@ impl<J: HubSite> CpuSeat<J> {
             log,
             naming: Naming::new(),
             held,
+            missed: MissedSeats::new(),
             scratch: Scratch::new(),
             ahead: 0,
         })

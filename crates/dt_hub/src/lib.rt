@@ -21,6 +21,7 @@ mod letting_go;
 mod looking;
 mod making;
 mod meeting;
+mod missed_seats;
 mod naming;
 mod offered;
 mod offering;

@@ -20,6 +20,7 @@ ghost use Rattle.dt_trail.specs.Items.{own};
 use crate::endless::wait_for_ever;
 use crate::gate::{Gate, Moment};
 use crate::hub::Hub;
+use crate::missed_seats::MissedSeats;
 use crossbeam_utils::Backoff;
 use dt_chain::{ChainReader, Seat, SeatMask, SeatSet};
 use dt_consumer::Scratch;
@@ -42,19 +43,6 @@ fn wait_for<'l, R: Wait, T>(rt: &R, lock: &'l Mutex<T>) -> MutexGuard<'l, T> {
         backoff.snooze();
     }
     lock.lock(rt)
-}
-
-/// Notes a seat that was missed.
-#[cold]
-fn miss(missed: &mut Option<SeatSet>, seat: Seat)
-    ensures { (other : ℕ) → missed_in missed.new other ≡ (if other == seat then true else missed_in missed.old other) }
-{
-    let mut seats = match *missed {
-        Some(seats) => seats,
-        None => SeatSet::new(),
-    };
-    seats.insert(seat);
-    *missed = Some(seats);
 }
 
 impl<J: HubSite> Hub<J> {
@@ -114,8 +102,7 @@ impl<J: HubSite> Hub<J> {
         held
     }
 
-    /// Offers a firing to each seat that is named and whose lock is had without waiting, in order of the seats. It answers which were missed, if some were: the set is
-    /// made at the first.
+    /// Offers a firing to each seat that is named and whose lock is had without waiting, in order of the seats, and notes which were missed.
     #[inline(always)]
     fn offer_where_free<R: Wait, G: Gate>(
         &self,
@@ -125,9 +112,10 @@ impl<J: HubSite> Hub<J> {
         scratch: &mut Scratch,
         followers: &mut Vec<Follower<J>>,
         held: &mut Vec<Held>,
+        missed: &mut MissedSeats,
         reader: &mut ChainReader<J>,
         gate: &G,
-    ) -> Option<SeatSet>
+    )
         requires context { IsContext J.contents.registry context.now }
         requires script { firing_at J.contents.scripts context.now.firing.now.cpu context.now.firing.now.place
             ≡ Some context.now.firing.now }
@@ -135,11 +123,11 @@ impl<J: HubSite> Hub<J> {
         requires many { vec_len held.old ≡ seat_count }
         requires look { IsMaskAfter J.contents.registry reader.old.seen context.now.firing.now mask.now }
         requires reader { IsPrefix reader.old.seen reader.old.told }
-        ensures offered { IsOfferedBut J.contents context.now.firing.now mask.now reader.old.seen followers.old.items (missed_in result)
+        ensures offered { IsOfferedBut J.contents context.now.firing.now mask.now reader.old.seen followers.old.items (missed_in missed.new)
             held.new.items followers.new.items reader.new.told }
         ensures reader { (reader.new.seen ≡ reader.old.seen) × IsPrefix reader.old.told reader.new.told }
     {
-        let mut missed = None;
+        missed.clear();
         let mut left = mask.named();
         let mut next = 0;
         'seats: while let Some((seat, life)) = left.pop_first() {
@@ -158,11 +146,10 @@ impl<J: HubSite> Hub<J> {
                     gate,
                 );
             } else {
-                miss(&mut missed, seat);
+                missed.add(seat);
             }
             next = at + 1;
         }
-        missed
     }
 
     /// Offers a firing to the seats that were missed, as they were locked. It waits for each.
@@ -225,6 +212,7 @@ impl<J: HubSite> Hub<J> {
         scratch: &mut Scratch,
         followers: &mut Vec<Follower<J>>,
         held: &mut Vec<Held>,
+        missed: &mut MissedSeats,
         reader: &mut ChainReader<J>,
         gate: &G,
     )
@@ -244,9 +232,10 @@ impl<J: HubSite> Hub<J> {
         ensures reader { (reader.new.seen ≡ reader.old.seen) × IsPrefix reader.old.told reader.new.told }
         ensures published { (seat : ℕ) → KnowsPublicationAt J.contents mask.now followers.new.items reader.new.told seat }
     {
-        if let Some(missed) = self.offer_where_free(
-            rt, context, mask, scratch, followers, held, reader, gate,
-        ) {
+        self.offer_where_free(
+            rt, context, mask, scratch, followers, held, missed, reader, gate,
+        );
+        if let Some(missed) = missed.seats() {
             self.offer_to_missed(
                 rt, context, mask, missed, scratch, followers, held, reader, gate,
             );

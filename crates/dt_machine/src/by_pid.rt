@@ -1,5 +1,5 @@
 //! Where the process of each number lies.
-ghost use Rattle.std.specs.Prelude.{◌≡◌, ◌==◌, ◌+◌, ◌<◌, ◌^◌, ℕ, None, Some, OnOk, if◌then◌else◌};
+ghost use Rattle.std.specs.Prelude.{◌≡◌, ◌==◌, ◌+◌, ◌<◌, ◌^◌, ℕ, None, Some, IsSome, OnOk, if◌then◌else◌};
 
 use std::alloc::{AllocError, Global};
 
@@ -33,6 +33,14 @@ impl ByPid {
             Some(mark) if *mark > 0 => Some(usize::from(*mark - 1)),
             _ => None,
         }
+    }
+
+    /// The place of a process that is there.
+    pub(crate) fn known_place(&self, pid: u32) -> usize
+        requires { IsSome (place_in self.now pid) }
+        ensures { place_in self.now pid ≡ Some result }
+    {
+        usize::from(self.marks[pid as usize] - 1)
     }
 
     /// Puts a process at a place.

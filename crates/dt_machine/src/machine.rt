@@ -41,7 +41,7 @@ impl Model for Machine {
 
 impl Machine {
     ghost use Rattle.dt_machine.specs.Context.{IsContext};
-    ghost use Rattle.dt_machine.specs.Registry.{IsSound, IsForeign, account_of, process_of, probe_of, firing_at};
+    ghost use Rattle.dt_machine.specs.Registry.{Belongs, IsSound, IsForeign, account_of, process_of, probe_of, firing_at};
     ghost use Rattle.dt_machine.specs.Reading.{IsDescribed, IsFaultOf, UnlessMemory};
     ghost use Rattle.dt_machine.specs.Sections.{IsReady, registry_of, contents_with};
 
@@ -155,6 +155,16 @@ impl Machine {
         ensures sound { IsSound self.now }
     {
         self.sections.context(firing)
+    }
+
+    /// The same of a firing that is known to belong to the machine, as each of its scripts does: nothing is asked again, and it costs what the probe and the process cost
+    /// to find.
+    pub fn context_of<'a>(&'a self, firing: &'a Firing) -> Context<'a>
+        requires { Belongs self.now.registry firing.now }
+        ensures value { IsContext self.now.registry result × (result.firing.now ≡ firing.now) }
+        ensures sound { IsSound self.now }
+    {
+        self.sections.context_of(firing)
     }
 }
 

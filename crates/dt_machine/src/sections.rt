@@ -33,7 +33,7 @@ pub(crate) struct Sections {
 
 impl Sections {
     ghost use Rattle.dt_machine.specs.Context.{IsContext};
-    ghost use Rattle.dt_machine.specs.Registry.{IsForeign, probe_of, process_of};
+    ghost use Rattle.dt_machine.specs.Registry.{Belongs, IsForeign, probe_of, process_of};
     ghost use Rattle.dt_machine.specs.Sections.{AreSections, IsReady, registry_of};
     ghost use Rattle.dt_machine.specs.Reading.{NowhereIfMemory, UnlessMemory};
 
@@ -107,6 +107,21 @@ impl Sections {
             })
         } else {
             None
+        }
+    }
+
+    /// The same of a firing that belongs to the machine.
+    pub(crate) fn context_of<'a>(&'a self, firing: &'a Firing) -> Context<'a>
+        requires ready { IsReady self.now }
+        requires belongs { Belongs (registry_of self.now) firing.now }
+        ensures { IsContext (registry_of self.now) result × (result.firing.now ≡ firing.now) }
+    {
+        let place = self.by_pid.known_place(firing.pid);
+        Context {
+            // identifiers count from 1, which is `BEGIN`
+            probe: &self.probes[firing.probe as usize - 1],
+            process: &self.processes[place],
+            firing,
         }
     }
 }

@@ -11,14 +11,14 @@ use Rattle.dt_facts.specs.laws.Beginnings.{prefix_self}
 use Rattle.dt_hub.proofs.Publications.{known_unnamed}
 use Rattle.dt_hub.proofs.Tracks.{all_writes, counts_said, log_longer, passed_at}
 use Rattle.dt_hub.proofs.hub.Hub.fire.Goals as goal
-use Rattle.dt_hub.proofs.hub.Hub.fire.Goals.{then-not-is_empty+in-Some-context, else-not-is_empty}
+use Rattle.dt_hub.proofs.hub.Hub.fire.Goals.{then-not-is_empty, else-not-is_empty}
 use Rattle.dt_hub.proofs.Places.{at_seat_next}
 use Rattle.dt_hub.specs.Processors.{AreAtSeats, AreTrackedBy, IsAtSeat, knew_at_seats, places_in}
 use Rattle.dt_life.specs.laws.Options.{if_some_map}
 use Rattle.dt_machine.specs.Registry.{firing_at}
 
-pub unreachable-requires : goal.unreachable-requires
-unreachable-requires g c =
+pub context_of-context-requires : goal.context_of-context-requires
+context_of-context-requires g c =
     let contents = g.J.Traced.contents in
     let firing = c.in-Some.firing.now in
     let script : firing_at contents.scripts firing.cpu firing.place ≡ Some firing = search rules in
@@ -43,8 +43,8 @@ invariant_of-cpu_seat-2 g c =
     let before : AreTrackedBy contents reader.seen log start =
     all_writes contents inside.reader.told reader.seen log start c.in-Ok.ensures.told inv.tracked in
     elim c.if-not-is_empty.branch [
-      | then-not-is_empty+in-Some-context w ↦
-          let same : w.in-Some-context.context.firing.now ≡ firing = search rules in
+      | then-not-is_empty w ↦
+          let same : w.context_of-context.result.firing.now ≡ firing = search rules in
           rw w.cpu_seat-inside-is (record {
             there = inv.there;
             seats = rw (same, cpu_is, place_is) at w.offer_to_named.ensures.seats;
@@ -80,7 +80,7 @@ returns g c =
     let log = places_in inside.log.fact in
     let counts = counts_said contents inside.reader.told log inside.followers.items c.cpu_seat.invariant.tracked in
     elim c.if-not-is_empty.branch [
-      | then-not-is_empty+in-Some-context w ↦ rw (← c.cpu_seat.view_is, w.cpu_seat-inside-is) (record {
+      | then-not-is_empty w ↦ rw (← c.cpu_seat.view_is, w.cpu_seat-inside-is) (record {
         firing = c.in-Some.firing.now;
         looks = search rules;
         cpu = search rules;

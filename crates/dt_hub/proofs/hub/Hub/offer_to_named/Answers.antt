@@ -1,25 +1,21 @@
 -- What is to be shown of `offer_to_named`.
-use Rattle.std.proofs.Common.{◌≡◌, ◌∙◌, ℕ, Option, None, rules, refl, subst, ap, false, length}
+use Rattle.std.proofs.Common.{◌≡◌, ◌∙◌, rules, refl, false, length}
 use Rattle.dt_chain.specs.Limits.{seat_count}
 use Rattle.dt_chain.specs.Seats.{has}
-use Rattle.dt_chain.specs.declared.seat_set.SeatSet.{SeatSet}
 use Rattle.dt_facts.specs.laws.Beginnings.{prefix_trans}
 use Rattle.dt_hub.specs.Offering.{IsOfferedBut, missed_in}
-use Rattle.dt_hub.proofs.Rounds.{all_placed}
+use Rattle.dt_hub.proofs.Rounds.{all_placed, offered_same}
 use Rattle.dt_hub.proofs.hub.Hub.offer_to_named.Given as given
 use Rattle.dt_hub.proofs.hub.Hub.offer_to_named.Goals as goal
-
-none_in : (missed : Option SeatSet) → missed ≡ None → (seat : ℕ) → missed_in missed seat ≡ false
-none_in missed is seat = ap (λ m. missed_in m seat) is
 
 -- where some were missed, they are still to come
 some_missed : (g : given.Over) → (c : goal.After-offer_to_missed g)
     → IsOfferedBut g.J.Traced.contents c.args.context.now.firing.now c.args.mask.now c.args.reader.now.seen c.args.followers.now.items (has c.in-Some.missed)
     c.offer_where_free.new.held.items c.offer_where_free.new.followers.items c.offer_where_free.new.reader.told
 some_missed g c =
-    subst (λ (missed : Option SeatSet). IsOfferedBut g.J.Traced.contents c.args.context.now.firing.now c.args.mask.now c.args.reader.now.seen
-    c.args.followers.now.items (missed_in missed) c.offer_where_free.new.held.items c.offer_where_free.new.followers.items
-    c.offer_where_free.new.reader.told) c.in-Some.is c.offer_where_free.ensures.offered
+    offered_same g.J.Traced.contents c.args.context.now.firing.now c.args.mask.now c.args.reader.now.seen c.args.followers.now.items
+    (missed_in c.offer_where_free.new.missed) (has c.in-Some.missed) c.offer_where_free.new.held.items c.offer_where_free.new.followers.items
+    c.offer_where_free.new.reader.told c.in-Some.ensures c.offer_where_free.ensures.offered
 
 -- and then none is to come any more
 all_offered : (g : given.Over) → (c : goal.After-offer_to_missed g)
@@ -54,8 +50,8 @@ returns-in-Some-clause-published g c = λ seat. (all_offered g c).published seat
 pub returns-in_default-clause-seats : goal.returns-in_default-clause-seats
 returns-in_default-clause-seats g c =
     all_placed g.J.Traced.contents c.args.context.now.firing.now c.args.mask.now c.args.reader.now.seen c.args.followers.now.items
-    (missed_in c.offer_where_free.result) c.offer_where_free.new.held.items c.offer_where_free.new.followers.items
-    c.offer_where_free.new.reader.told (none_in c.offer_where_free.result c.in_default.is) c.offer_where_free.ensures.offered
+    (missed_in c.offer_where_free.new.missed) c.offer_where_free.new.held.items c.offer_where_free.new.followers.items
+    c.offer_where_free.new.reader.told c.in_default.ensures c.offer_where_free.ensures.offered
 
 pub returns-in_default-clause-many : goal.returns-in_default-clause-many
 returns-in_default-clause-many g c =
@@ -63,15 +59,15 @@ returns-in_default-clause-many g c =
 
 pub returns-in_default-clause-each : goal.returns-in_default-clause-each
 returns-in_default-clause-each g c = λ seat.
-    c.offer_where_free.ensures.offered.each seat (none_in c.offer_where_free.result c.in_default.is seat)
+    c.offer_where_free.ensures.offered.each seat (c.in_default.ensures seat)
 
 pub returns-in_default-clause-tracked : goal.returns-in_default-clause-tracked
 returns-in_default-clause-tracked g c = λ log places h seat.
-    c.offer_where_free.ensures.offered.tracked log places h seat (none_in c.offer_where_free.result c.in_default.is seat)
+    c.offer_where_free.ensures.offered.tracked log places h seat (c.in_default.ensures seat)
 
 pub returns-in_default-clause-reader : goal.returns-in_default-clause-reader
 returns-in_default-clause-reader g c = c.offer_where_free.ensures.reader
 
 pub returns-in_default-clause-published : goal.returns-in_default-clause-published
 returns-in_default-clause-published g c = λ seat.
-    c.offer_where_free.ensures.offered.published seat (none_in c.offer_where_free.result c.in_default.is seat)
+    c.offer_where_free.ensures.offered.published seat (c.in_default.ensures seat)

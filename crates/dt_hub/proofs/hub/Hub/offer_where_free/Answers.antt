@@ -14,15 +14,15 @@ use Rattle.dt_hub.proofs.hub.Hub.offer_where_free.Goals as goal
 
 pub seats-init : goal.seats-init
 seats-init g c =
-    let same : (seat : ℕ) → is_some (life_left c.named-left.result seat) || false ≡ is_some (life_at c.args.mask.now seat) =
-    λ seat. none_missed (life_left c.named-left.result seat) (life_at c.args.mask.now seat) false
-    (c.named-left.ensures seat) refl in
+    let same : (seat : ℕ) → is_some (life_left c.named-left.result seat) || missed_in c.clear.new.self seat ≡ is_some (life_at c.args.mask.now seat) =
+    λ seat. none_missed (life_left c.named-left.result seat) (life_at c.args.mask.now seat) (missed_in c.clear.new.self seat)
+    (c.named-left.ensures seat) (c.clear.ensures seat) in
     let answers : length c.args.held.now.items ≡ seat_count = search rules in
     record {
       low = omega arith;
       left_below = λ seat lt. absurd (omega (arith, lt));
       left_from = λ seat le. c.named-left.ensures seat;
-      missed_from = λ seat le. refl;
+      missed_from = λ seat le. c.clear.ensures seat;
       offered = offered_none g.J.Traced.contents c.args.context.now.firing.now c.args.mask.now c.args.reader.now.seen c.args.followers.now.items
           c.args.held.now.items c.args.reader.now.told _ c.requires.script c.requires.look c.requires.seats answers c.requires.reader same;
       seen = refl;
@@ -79,7 +79,7 @@ seats-preserved g c =
       left_from = same_from left new missed n taken (life_at mask) c.seats.next le inv.left_from;
       missed_from = λ seat far. elim c.match-try_lock.branch [
         | in-Some-try_lock w ↦ rw w.missed-is (inv.missed_from seat (omega (arith, far, le)))
-        | in_default-try_lock w ↦ rw w.missed-is (none_missed_from missed (missed_in w.miss.new.missed) n (λ other. rw value (w.miss.ensures other)) seat far
+        | in_default-try_lock w ↦ rw w.missed-is (none_missed_from missed (missed_in w.add.new.self) n (λ other. rw value (w.add.ensures other)) seat far
             (inv.missed_from seat (omega (arith, far, le))))
       ];
       offered = elim c.match-try_lock.branch [
@@ -95,7 +95,7 @@ seats-preserved g c =
             w.offer_at.ensures.published (rw inv.seen at w.offer_at.ensures.tracked) w.offer_at.ensures.reader.1)
         | in_default-try_lock w ↦ rw (w.held-is, w.followers-is, w.reader-is, w.missed-is)
             (offered_same contents firing mask c.args.reader.now.seen c.args.followers.now.items _ _ c.seats.held.items c.seats.followers.items
-            c.seats.reader.told (left_missed left new missed n taken (missed_in w.miss.new.missed) _ was_left (λ other. rw value (w.miss.ensures other)))
+            c.seats.reader.told (left_missed left new missed n taken (missed_in w.add.new.self) _ was_left (λ other. rw value (w.add.ensures other)))
             inv.offered)
       ];
       seen = elim c.match-try_lock.branch [
