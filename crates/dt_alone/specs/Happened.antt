@@ -1,5 +1,5 @@
 -- What happened on each processor, as a runner lists it, the oldest first.
-use Rattle.std.specs.Prelude.{◌≡◌, ℕ, ◌+◌, ◌<◌, ◌==◌, Bool, true, false, List, [], ◌∷◌, ◌++◌, length, map, filter, option_and_then}
+use Rattle.std.specs.Prelude.{◌≡◌, ℕ, ◌+◌, ◌<◌, ◌==◌, Bool, true, false, List, [], ◌∷◌, ◌++◌, length, map, filter}
 use Rattle.std.specs.Prelude.{if◌then◌else◌}
 use Rattle.std.specs.List.{flat_map}
 use Rattle.std.specs.Option.{option_map, option_to_list}
@@ -8,9 +8,8 @@ use Rattle.dt_aggstore.specs.History as store
 use Rattle.dt_buffer.specs.Ending.{fitting}
 use Rattle.dt_buffer.specs.History as buffer
 use Rattle.dt_ecb.specs.Shapes.{ShapeForm}
-use Rattle.dt_record.specs.Taking.{TakenForm}
 use Rattle.dt_speculation.specs.Answers.{failed_draws}
-use Rattle.dt_speculation.specs.History.{SpecEvent, SpecPast, put_under}
+use Rattle.dt_speculation.specs.History.{SpecEvent, SpecPast}
 use Rattle.dt_speculation.specs.Parts.{is_dropped, spec_drops}
 use Rattle.dt_alone.specs.declared.happened.Happened.{Happened}
 use Rattle.dt_alone.specs.declared.happened.Happened.TheVariants.{Failed, Left, Committed, Snapped, Truncated, VariableDropped, RecordDropped, DrawFailed}

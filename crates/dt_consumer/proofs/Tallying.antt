@@ -10,7 +10,7 @@ use Rattle.std.proofs.lemmas.Bool.{cases_eq, cases_lt, eq-eqb, le-ltb, lt-ltb, n
 use Rattle.std.proofs.lemmas.List.{append-nil}
 use Rattle.std.proofs.lemmas.List.Elements.{All-head, All-tail}
 use Rattle.std.proofs.lemmas.Option.{slice_get-get_or}
-use Rattle.dt_buffer.specs.History.{BufferPast, attempt, of_end}
+use Rattle.dt_buffer.specs.History.{attempt, of_end}
 use Rattle.dt_buffer.specs.History as buffer
 use Rattle.dt_buffer.specs.Shows.{EndLast}
 use Rattle.dt_record.specs.Taking.{TakenForm}

@@ -1,5 +1,5 @@
 -- How far a firing was offered.
-use Rattle.std.specs.Prelude.{◌≡◌, ◌+◌, ◌++◌, ◌∷◌, ◌&&◌, ℕ, Bool, true, false, List, [], Some, IfSome, IsSome, length, slice_get}
+use Rattle.std.specs.Prelude.{◌≡◌, ◌+◌, ◌++◌, ◌∷◌, ◌&&◌, ℕ, Bool, true, false, List, [], IfSome, IsSome, length, slice_get}
 use Rattle.dt_chain.specs.Limits.{seat_count}
 use Rattle.dt_chain.specs.Seats.{has, life_at}
 use Rattle.dt_chain.specs.Writes.{Write}

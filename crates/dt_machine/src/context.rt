@@ -7,7 +7,8 @@ use dt_cred::{Account, Firing, Probe, Process, admits};
 
 /// A probe that fires in a process: a firing, with the probe and the process that it names.
 ///
-/// [`Machine::context`](crate::Machine::context) looks both up once, and lends them to all that the firing is offered to.
+/// [`Machine::context`](crate::Machine::context), and [`Machine::context_of`](crate::Machine::context_of) for a firing that is known to belong, look both up once, and lend them
+/// to all that the firing is offered to.
 #[derive(Clone, Copy)]
 pub struct Context<'a> {
     pub probe: &'a Probe,

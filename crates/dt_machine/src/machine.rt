@@ -157,7 +157,7 @@ impl Machine {
         self.sections.context(firing)
     }
 
-    /// The same of a firing that is known to belong to the machine, as each of its scripts does: nothing is asked again, and it costs what the probe and the process cost
+    /// The same of a firing that is known to belong to the machine, as each firing of its scripts does: nothing is asked again, and it costs what the probe and the process cost
     /// to find.
     pub fn context_of<'a>(&'a self, firing: &'a Firing) -> Context<'a>
         requires { Belongs self.now.registry firing.now }

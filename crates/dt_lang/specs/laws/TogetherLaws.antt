@@ -9,7 +9,7 @@ use Rattle.dt_lang.specs.declared.token.Token.{Token}
 use Rattle.dt_lang.specs.declared.token.Token.TheVariants as token
 use Rattle.dt_lang.specs.Expression.{a_local}
 use Rattle.dt_lang.specs.Grammar.{bare, keyed, ReadsStatement, of_argument, of_stack, of_ustack, aggregating, assigning, drawing}
-use Rattle.dt_lang.specs.Grammar.{Spot, before_statement, ReadsBody, nothing, stated, separated, ReadsOpening, ReadsClause, a_clause, ReadsClauses}
+use Rattle.dt_lang.specs.Grammar.{Spot, before_statement, ReadsBody, nothing, stated, separated, ReadsClause, a_clause, ReadsClauses}
 use Rattle.dt_lang.specs.Grammar as grammar
 use Rattle.dt_lang.specs.Refused.{because, NoneRefused}
 use Rattle.dt_lang.specs.Together.{StandTogether}
